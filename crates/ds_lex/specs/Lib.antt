@@ -1,0 +1,4 @@
+pub mod Bytes
+pub mod Number
+pub mod Lexed
+pub mod Scan
