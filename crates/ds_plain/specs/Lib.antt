@@ -1,0 +1,8 @@
+pub mod Behaviour
+pub mod Limits
+pub mod Plain
+pub mod Table
+pub mod Thread
+pub mod History
+pub mod Explained
+pub mod Small
