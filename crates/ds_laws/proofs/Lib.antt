@@ -1,0 +1,5 @@
+pub mod Choices
+pub mod Pushes
+pub mod Links
+pub mod Counts
+pub mod Runs
