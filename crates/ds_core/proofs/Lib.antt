@@ -1,0 +1,3 @@
+mod Steps_more
+mod Main_steps
+mod Recorded
