@@ -1,0 +1,3 @@
+pub mod Fault
+pub mod Prints
+pub mod Report

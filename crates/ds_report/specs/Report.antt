@@ -1,0 +1,44 @@
+-- The report of a run.
+use Rattle.std.specs.Prelude.{◌≡◌, ℕ, ◌+◌, List, [], ◌∷◌, ◌++◌, length, Some, None, codes, decimal}
+use Rattle.std.specs.Fmt.{signed_decimal}
+use Rattle.std.specs.Int.{cast_signed, w32, w64}
+use Rattle.std.specs.List.{flat_map}
+use Rattle.ds_step.specs.declared.Step.{Step}
+use Rattle.ds_plain.specs.declared.Stop.{Stop}
+use Rattle.ds_plain.specs.declared.Stop.TheVariants.{Idle, Running, Returned, Fuel}
+use Rattle.ds_plain.specs.Explained.{stop_in}
+use Rattle.ds_report.specs.declared.prints.Print.{Print}
+use Rattle.ds_report.specs.Prints.{all_prints, IsInOrder}
+
+-- a print's value as a signed decimal number
+abbrev pub print_line : Print → List ℕ
+print_line print = signed_decimal (cast_signed w64 print.value) ++ codes "\n"
+
+-- the line of a thread that did not come to the end of its function
+abbrev pub stop_line : ℕ → Stop → List ℕ
+stop_line thread Idle = []
+stop_line thread Running = []
+stop_line thread (Returned value) = []
+stop_line thread Fuel = codes "fuel thread " ++ decimal thread ++ codes "\n"
+
+-- the lines of the threads from this number on
+abbrev pub stop_lines : ℕ → List Stop → List ℕ
+stop_lines thread [] = []
+stop_lines thread (stop ∷ stops) = stop_line thread stop ++ stop_lines (thread + 1) stops
+
+-- how main ended; a run is reported only when it has
+abbrev pub how_text : Stop → List ℕ
+how_text Idle = []
+how_text Running = []
+how_text (Returned None) = codes "returned"
+how_text (Returned (Some value)) = codes "returned " ++ signed_decimal (cast_signed w32 value)
+how_text Fuel = codes "out of fuel"
+
+-- the last line, by how main ended and the number of prints
+abbrev pub summary_line : Stop → ℕ → List ℕ
+summary_line main prints = codes "main " ++ how_text main ++ codes "; prints " ++ decimal prints ++ codes " mallocs 0 frees 0 notes 0 marks 0 traps 0\n"
+
+-- a line for each print, in the order of their numbers; the stop lines in the order of the threads; and the summary
+abbrev pub IsReport : List Stop → List (List Step) → List ℕ → Type 0
+IsReport stops traces text =
+    (prints : List Print) × IsInOrder (all_prints traces) prints × (text ≡ flat_map print_line prints ++ stop_lines 0 stops ++ summary_line (stop_in stops 0) (length prints))

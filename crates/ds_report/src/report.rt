@@ -1,0 +1,90 @@
+//! The report of a run.
+
+ghost use Rattle.std.specs.Prelude.{◌≡◌, ◌++◌, length, slice_index, OnOk, IfOk};
+ghost use Rattle.std.specs.List.{flat_map};
+ghost use Rattle.ds_plain.specs.Explained.{HasEnded, stop_in};
+ghost use Rattle.ds_report.specs.Report.{print_line, stop_line, stop_lines, how_text, summary_line, IsReport};
+
+use crate::prints::{Print, in_order};
+use crate::text::{push, push_number};
+use ds_core::RunRecord;
+use ds_plain::Stop;
+use std::alloc::{AllocError, Global};
+
+/// Adds a line for each print: its value as a signed decimal number.
+fn push_print_lines(text: &mut Vec<u8>, prints: &[Print]) -> Result<(), AllocError>
+    ensures { OnOk result (text.new.items ≡ text.old.items ++ flat_map print_line prints.now) }
+{
+    for print in prints {
+        push_number(text, print.value.cast_signed())?;
+        push(text, b"\n")?;
+    }
+    Ok(())
+}
+
+/// Adds the line of a thread that did not come to the end of its function.
+fn push_stop_line(text: &mut Vec<u8>, thread: usize, stop: Stop) -> Result<(), AllocError>
+    ensures { OnOk result (text.new.items ≡ text.old.items ++ stop_line thread stop) }
+{
+    match stop {
+        Stop::Idle | Stop::Running | Stop::Returned(_) => Ok(()),
+        Stop::Fuel => {
+            push(text, b"fuel thread ")?;
+            push_number(text, thread)?;
+            push(text, b"\n")?;
+            Ok(())
+        }
+    }
+}
+
+/// Adds the stop lines of all threads, in number order.
+fn push_stop_lines(text: &mut Vec<u8>, stops: &[Stop]) -> Result<(), AllocError>
+    ensures { OnOk result (text.new.items ≡ text.old.items ++ stop_lines 0 stops.now) }
+{
+    for (thread, stop) in stops.iter().enumerate() {
+        push_stop_line(text, thread, *stop)?;
+    }
+    Ok(())
+}
+
+/// Adds how main ended.
+fn push_how(text: &mut Vec<u8>, stop: Stop) -> Result<(), AllocError>
+    ensures { OnOk result (text.new.items ≡ text.old.items ++ how_text stop) }
+{
+    match stop {
+        Stop::Idle | Stop::Running => Ok(()),
+        Stop::Returned(None) => push(text, b"returned"),
+        Stop::Returned(Some(value)) => {
+            push(text, b"returned ")?;
+            push_number(text, value.cast_signed())
+        }
+        Stop::Fuel => push(text, b"out of fuel"),
+    }
+}
+
+/// Adds the last line: how main ended, and the counts.
+fn push_summary(text: &mut Vec<u8>, main: Stop, prints: usize) -> Result<(), AllocError>
+    ensures { OnOk result (text.new.items ≡ text.old.items ++ summary_line main prints) }
+{
+    push(text, b"main ")?;
+    push_how(text, main)?;
+    push(text, b"; prints ")?;
+    push_number(text, prints)?;
+    push(text, b" mallocs 0 frees 0 notes 0 marks 0 traps 0\n")
+}
+
+/// The report of a run in which main has ended: what was printed, in order; a line for each thread that
+/// did not come to the end of its function; and the summary.
+pub fn render(alloc: Global, run: &RunRecord) -> Result<Vec<u8>, AllocError>
+    requires stops { length run.now.stops ≡ 16 }
+    requires ended { HasEnded (stop_in run.now.stops 0) }
+    ensures { IfOk result (λ text. IsReport run.now.stops run.now.traces text.items) }
+{
+    let prints = in_order(alloc, run.traces.as_slice())?;
+    let stops = run.stops.as_slice();
+    let mut text = Vec::new(alloc);
+    push_print_lines(&mut text, prints.as_slice())?;
+    push_stop_lines(&mut text, stops)?;
+    push_summary(&mut text, stops[0], prints.len())?;
+    Ok(text)
+}
