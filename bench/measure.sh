@@ -1,0 +1,20 @@
+# For the scripts beside it: runs a command on an input, and prints the input's size, the time and the peak of memory.
+# usage: measure LABEL INPUT COMMAND..
+measure() {
+    label=$1
+    input=$2
+    shift 2
+    python3 - "$label" "$input" "$@" <<'PYTHON'
+import os, resource, subprocess, sys, time
+label, path, command = sys.argv[1], sys.argv[2], sys.argv[3:]
+best = None
+for _ in range(3):
+    with open(path, "rb") as given, open(os.devnull, "wb") as sunk:
+        began = time.perf_counter()
+        status = subprocess.run(command, stdin=given, stdout=sunk).returncode
+        took = time.perf_counter() - began
+    best = took if best is None else min(best, took)
+peak = resource.getrusage(resource.RUSAGE_CHILDREN).ru_maxrss / 1024
+print(f"{label:<28} {os.path.getsize(path):>9} bytes  {best:7.3f} s  {peak:7.1f} MB  status {status}")
+PYTHON
+}

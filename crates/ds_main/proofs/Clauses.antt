@@ -1,0 +1,146 @@
+-- What the ending of a call says, clause by clause.
+use Rattle.std.proofs.Common.{◌≡◌, ℕ, ◌⊎◌, inl, inr, List, [], length, Option, Some, refl, sym, subst, ◌∙◌, arith}
+use Rattle.std.specs.Option.{option_map}
+use Rattle.ds_io.specs.Counts.{Rose}
+use Rattle.ds_io.specs.Sink.{Takes, TakesFront}
+use Rattle.ds_report.specs.declared.fault.Fault.{Fault}
+use Rattle.ds_report.specs.declared.fault.Fault.TheVariants.{Usage, Read, TooLong, OtherForm}
+use Rattle.ds_report.specs.Fault.{fault_text}
+use Rattle.ds_report.specs.Report.{IsReport}
+use Rattle.ds_main.specs.Job.{HasJob, NoJob}
+use Rattle.ds_main.specs.Input.{IsRefused, IsAccepted, Spells, Held}
+use Rattle.ds_main.specs.Run.{IsEmpty, IsRunOfInput}
+use Rattle.ds_main.specs.Ending.{Call, Refused, Ends, status_of, IsDue, IsDueText, IsCutShort, IsFaultStatus, IsStatus}
+use Rattle.ds_main.proofs.Endings.{by_ending}
+
+-- a status that is two numbers
+no_status : (status m n : ℕ) → status ≡ m → status ≡ n → (m ≡ n → ⊥) → ⊥
+no_status status m n a b ne = ne (sym a ∙ b)
+
+pub headline : (call : Call) → Ends call → IsEmpty call.run ⊎ (HasJob call.words × IsRunOfInput call.left call.run)
+headline call ends = by_ending call _ (λ x. inl x.empty) (λ x. inl x.empty) (λ x. inr (x.ran.job, x.ran.run)) (λ x. inr (x.ran.job, x.ran.run)) (λ x. x.run) ends
+
+-- the status of a fault is none of these
+fault_status : (fault : Fault) → IsFaultStatus (status_of fault)
+fault_status Usage = inr (inl refl)
+fault_status Read = inr (inr refl)
+fault_status TooLong = inl refl
+fault_status OtherForm = inl refl
+
+not_fault : (status : ℕ) → IsFaultStatus status → (status ≡ 0 → ⊥) × (status ≡ 5 → ⊥) × (status ≡ 6 → ⊥)
+not_fault status (inl a) = ((λ e. absurd (omega arith)), (λ e. absurd (omega arith)), (λ e. absurd (omega arith)))
+not_fault status (inr (inl a)) = ((λ e. absurd (omega arith)), (λ e. absurd (omega arith)), (λ e. absurd (omega arith)))
+not_fault status (inr (inr a)) = ((λ e. absurd (omega arith)), (λ e. absurd (omega arith)), (λ e. absurd (omega arith)))
+
+of_refused : (call : Call) → Refused call → IsFaultStatus call.status
+of_refused call x = subst IsFaultStatus (sym x.status) (fault_status x.fault)
+
+pub ran : (call : Call) → Ends call → call.status ≡ 0 → HasJob call.words × IsRunOfInput call.left call.run
+ran call ends zero = by_ending call _ (λ x. absurd ((not_fault call.status (of_refused call x)).0 zero)) (λ x. absurd (omega arith)) (λ x. (x.ran.job, x.ran.run)) (λ x. absurd (omega arith)) (λ x. absurd (omega arith)) ends
+
+pub reported : (call : Call) → Ends call → call.status ≡ 0 → (text : List ℕ) × IsReport call.run.stops call.run.traces text × Takes call.taken text call.taken_after
+reported call ends zero = by_ending call _ (λ x. absurd ((not_fault call.status (of_refused call x)).0 zero)) (λ x. absurd (omega arith)) (λ x. (x.text, x.ran.report, x.written)) (λ x. absurd (omega arith)) (λ x. absurd (omega arith)) ends
+
+pub read_out : (call : Call) → Ends call → call.status ≡ 0 → call.left_after ≡ option_map (λ _. []) call.left
+read_out call ends zero = by_ending call _ (λ x. absurd ((not_fault call.status (of_refused call x)).0 zero)) (λ x. absurd (omega arith)) (λ x. x.ran.read) (λ x. absurd (omega arith)) (λ x. absurd (omega arith)) ends
+
+-- which fault a status tells
+due_at_2 : (words : List (List ℕ)) (left : Option (List ℕ)) (rose : Type 0) (fault : Fault) → status_of fault ≡ 2 → IsDue words left rose fault → NoJob words
+due_at_2 words left rose Usage e due = due
+due_at_2 words left rose Read e due = absurd (omega arith)
+due_at_2 words left rose TooLong e due = absurd (omega arith)
+due_at_2 words left rose OtherForm e due = absurd (omega arith)
+
+due_at_4 : (words : List (List ℕ)) (left : Option (List ℕ)) (rose : Type 0) (fault : Fault) → status_of fault ≡ 4 → IsDue words left rose fault → HasJob words × rose
+due_at_4 words left rose Usage e due = absurd (omega arith)
+due_at_4 words left rose Read e due = due
+due_at_4 words left rose TooLong e due = absurd (omega arith)
+due_at_4 words left rose OtherForm e due = absurd (omega arith)
+
+due_at_1 : (words : List (List ℕ)) (left : Option (List ℕ)) (rose : Type 0) (fault : Fault) → status_of fault ≡ 1 → IsDue words left rose fault → HasJob words × Held left IsRefused
+due_at_1 words left rose Usage e due = absurd (omega arith)
+due_at_1 words left rose Read e due = absurd (omega arith)
+due_at_1 words left rose TooLong e due = (due.0, λ bytes held. inl (due.1 bytes held))
+due_at_1 words left rose OtherForm e due = (due.0, λ bytes held. inr (due.1 bytes held))
+
+pub usage : (call : Call) → Ends call → call.status ≡ 2 → NoJob call.words
+usage call ends two = by_ending call _ (λ x. due_at_2 call.words call.left (Rose call.reads call.reads_after) x.fault (sym x.status ∙ two) x.due) (λ x. absurd (omega arith)) (λ x. absurd (omega arith)) (λ x. absurd (omega arith)) (λ x. absurd (omega arith)) ends
+
+pub read_failed : (call : Call) → Ends call → call.status ≡ 4 → HasJob call.words × Rose call.reads call.reads_after
+read_failed call ends four = by_ending call _ (λ x. due_at_4 call.words call.left (Rose call.reads call.reads_after) x.fault (sym x.status ∙ four) x.due) (λ x. absurd (omega arith)) (λ x. absurd (omega arith)) (λ x. absurd (omega arith)) (λ x. absurd (omega arith)) ends
+
+pub refused : (call : Call) → Ends call → call.status ≡ 1 → HasJob call.words × Held call.left IsRefused
+refused call ends one = by_ending call _ (λ x. due_at_1 call.words call.left (Rose call.reads call.reads_after) x.fault (sym x.status ∙ one) x.due) (λ x. absurd (omega arith)) (λ x. absurd (omega arith)) (λ x. absurd (omega arith)) (λ x. absurd (omega arith)) ends
+
+-- where no job has the words, the fault is that
+due_without_job : (words : List (List ℕ)) (left : Option (List ℕ)) (rose : Type 0) (fault : Fault) → NoJob words → IsDue words left rose fault → status_of fault ≡ 2
+due_without_job words left rose Usage none due = refl
+due_without_job words left rose Read none due = absurd (none due.0.0 due.0.1)
+due_without_job words left rose TooLong none due = absurd (none due.0.0 due.0.1)
+due_without_job words left rose OtherForm none due = absurd (none due.0.0 due.0.1)
+
+pub usage_is_told : (call : Call) → Ends call → NoJob call.words → (call.status ≡ 2) ⊎ IsCutShort call.status
+usage_is_told call ends none = by_ending call _ (λ x. inl (x.status ∙ due_without_job call.words call.left (Rose call.reads call.reads_after) x.fault none x.due)) (λ x. inr (inl x.status))
+    (λ x. absurd (none x.ran.job.0 x.ran.job.1)) (λ x. absurd (none x.ran.job.0 x.ran.job.1)) (λ x. inr (inr x.status)) ends
+
+-- where a job has the words, the fault is one of the input
+due_with_job : (words : List (List ℕ)) (left : Option (List ℕ)) (rose : Type 0) (fault : Fault) → HasJob words → IsDue words left rose fault → (status_of fault ≡ 1) ⊎ ((status_of fault ≡ 4) × rose)
+due_with_job words left rose Usage job due = absurd (due job.0 job.1)
+due_with_job words left rose Read job due = inr (refl, due.1)
+due_with_job words left rose TooLong job due = inl refl
+due_with_job words left rose OtherForm job due = inl refl
+
+-- an input that spells a module is not refused
+accepted_or_refused : (bytes : List ℕ) → IsAccepted bytes → IsRefused bytes → ⊥
+accepted_or_refused bytes accepted (inl long) = absurd (omega (arith, accepted.1.0))
+accepted_or_refused bytes accepted (inr other) = other.1 accepted.0 accepted.1.1
+
+-- what was run was accepted
+run_is_accepted : (left : Option (List ℕ)) (call : Call) (bytes : List ℕ) → left ≡ Some bytes → IsRunOfInput left call.run → IsAccepted bytes
+run_is_accepted left call bytes held run = (run.small, subst (λ (b : List ℕ). Spells b run.small) (sym (run.held bytes held)) run.spelled)
+
+pub refusal_is_told : (call : Call) → Ends call → HasJob call.words → Held call.left (λ bytes. IsRefused bytes → (call.status ≡ 1) ⊎ ((call.status ≡ 4) × Rose call.reads call.reads_after) ⊎ IsCutShort call.status)
+refusal_is_told call ends job bytes held bad =
+    let told : (x : Refused call) → (call.status ≡ 1) ⊎ ((call.status ≡ 4) × Rose call.reads call.reads_after) ⊎ IsCutShort call.status = λ x.
+    elim (due_with_job call.words call.left (Rose call.reads call.reads_after) x.fault job x.due) [ inl one ↦ inl (x.status ∙ one) | inr four ↦ inr (inl (x.status ∙ four.0, four.1)) ] in
+    by_ending call _ told (λ x. inr (inr (inl x.status)))
+    (λ x. absurd (accepted_or_refused bytes (run_is_accepted call.left call bytes held x.ran.run) bad)) (λ x. inr (inr (inl x.status))) (λ x. inr (inr (inr x.status))) ends
+
+pub fault_line : (call : Call) → Ends call → IsFaultStatus call.status → (fault : Fault) × (call.status ≡ status_of fault) × IsDue call.words call.left (Rose call.reads call.reads_after) fault × Takes call.taken (fault_text fault) call.taken_after
+fault_line call ends is = by_ending call _ (λ x. (x.fault, x.status, x.due, x.written)) (λ x. absurd ((not_fault call.status is).1 x.status)) (λ x. absurd ((not_fault call.status is).0 x.status)) (λ x. absurd ((not_fault call.status is).1 x.status)) (λ x. absurd ((not_fault call.status is).2 x.status)) ends
+
+pub nothing_run : (call : Call) → Ends call → IsFaultStatus call.status → IsEmpty call.run
+nothing_run call ends is = by_ending call _ (λ x. x.empty) (λ x. x.empty) (λ x. absurd ((not_fault call.status is).0 x.status)) (λ x. absurd ((not_fault call.status is).1 x.status)) (λ x. absurd ((not_fault call.status is).2 x.status)) ends
+
+pub write_failed : (call : Call) → Ends call → call.status ≡ 5 → Rose call.writes call.writes_after × (text : List ℕ) × IsDueText call.words call.left (Rose call.reads call.reads_after) call.run text × TakesFront call.taken text call.taken_after
+write_failed call ends five = by_ending call _ (λ x. absurd ((not_fault call.status (of_refused call x)).1 five)) (λ x. (x.rose, fault_text x.fault, inl (x.fault, x.due, x.empty, refl), x.written)) (λ x. absurd (omega arith))
+    (λ x. (x.rose, x.text, inr (x.ran.job, x.ran.run, x.ran.report), x.written)) (λ x. absurd (omega arith)) ends
+
+pub out_of_memory : (call : Call) → Ends call → call.status ≡ 6 → call.taken_after ≡ call.taken
+out_of_memory call ends six = by_ending call _ (λ x. absurd ((not_fault call.status (of_refused call x)).2 six)) (λ x. absurd (omega arith)) (λ x. absurd (omega arith)) (λ x. absurd (omega arith)) (λ x. x.nothing) ends
+
+pub statuses : (call : Call) → Ends call → IsStatus call.status
+statuses call ends = by_ending call _ (λ x. inr (inl (of_refused call x))) (λ x. inr (inr (inl x.status))) (λ x. inl x.status) (λ x. inr (inr (inl x.status))) (λ x. inr (inr (inr x.status))) ends
+
+-- an accepted input whose source did not fail has no fault
+no_fault : (words : List (List ℕ)) (left : Option (List ℕ)) (rose : Type 0) (fault : Fault) (bytes : List ℕ) → HasJob words → left ≡ Some bytes → IsAccepted bytes → ¬ rose → IsDue words left rose fault → ⊥
+no_fault words left rose Usage bytes job held accepted calm due = due job.0 job.1
+no_fault words left rose Read bytes job held accepted calm due = calm due.1
+no_fault words left rose TooLong bytes job held accepted calm due = accepted_or_refused bytes accepted (inl (due.1 bytes held))
+no_fault words left rose OtherForm bytes job held accepted calm due = accepted_or_refused bytes accepted (inr (due.1 bytes held))
+
+-- an empty record is of no run
+empty_or_run : (call : Call) (left : Option (List ℕ)) → IsEmpty call.run → IsRunOfInput left call.run → ⊥
+empty_or_run call left empty run = let stops : length call.run.stops ≡ 0 = rw empty.no_stops refl in absurd (omega (arith, run.run_of.sixteen_stops, stops))
+
+pub run_is_made : (call : Call) → Ends call → HasJob call.words → Held call.left (λ bytes. IsAccepted bytes → ¬ Rose call.reads call.reads_after → IsEmpty call.run → call.status ≡ 6)
+run_is_made call ends job bytes held accepted calm empty = by_ending call _
+    (λ x. absurd (no_fault call.words call.left (Rose call.reads call.reads_after) x.fault bytes job held accepted calm x.due))
+    (λ x. absurd (no_fault call.words call.left (Rose call.reads call.reads_after) x.fault bytes job held accepted calm x.due))
+    (λ x. absurd (empty_or_run call call.left empty x.ran.run)) (λ x. absurd (empty_or_run call call.left empty x.ran.run)) (λ x. x.status) ends
+
+pub complete : (call : Call) → Ends call → HasJob call.words → Held call.left (λ bytes. IsAccepted bytes → ¬ Rose call.reads call.reads_after → ¬ Rose call.writes call.writes_after → (call.status ≡ 0) ⊎ (call.status ≡ 6))
+complete call ends job bytes held accepted calm quiet = by_ending call _
+    (λ x. absurd (no_fault call.words call.left (Rose call.reads call.reads_after) x.fault bytes job held accepted calm x.due))
+    (λ x. absurd (no_fault call.words call.left (Rose call.reads call.reads_after) x.fault bytes job held accepted calm x.due))
+    (λ x. inl x.status) (λ x. absurd (quiet x.rose)) (λ x. inr x.status) ends

@@ -1,0 +1,5 @@
+mod Runs
+mod Words
+mod Inputs
+mod Endings
+mod Clauses

@@ -1,0 +1,30 @@
+-- What the bytes of an input are.
+use Rattle.std.specs.Prelude.{◌≡◌, ℕ, ◌<◌, ◌≤◌, ◌⊎◌, List, length, Option, Some}
+use Rattle.ds_parse.specs.Form.{Text}
+
+-- the most bytes that an input may have
+abbrev pub longest_input : ℕ
+longest_input = 8388608
+
+abbrev pub IsTooLong : List ℕ → Type 0
+IsTooLong bytes = longest_input < length bytes
+
+-- the bytes spell a module that prints these values
+abbrev pub Spells : List ℕ → List ℕ → Type 0
+Spells bytes small = (length bytes ≤ longest_input) × Text bytes small
+
+-- the input is accepted: it spells a module
+abbrev pub IsAccepted : List ℕ → Type 0
+IsAccepted bytes = (small : List ℕ) × Spells bytes small
+
+-- the input is not too long, and spells no module
+abbrev pub IsOtherForm : List ℕ → Type 0
+IsOtherForm bytes = (length bytes ≤ longest_input) × ((small : List ℕ) → Text bytes small → ⊥)
+
+-- the input is refused
+abbrev pub IsRefused : List ℕ → Type 0
+IsRefused bytes = IsTooLong bytes ⊎ IsOtherForm bytes
+
+-- P holds of the bytes that a source held, where it tells them
+abbrev pub Held : Option (List ℕ) → (List ℕ → Type 0) → Type 0
+Held left P = (bytes : List ℕ) → left ≡ Some bytes → P bytes

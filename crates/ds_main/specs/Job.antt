@@ -1,0 +1,19 @@
+-- The words of a job.
+use Rattle.std.specs.Prelude.{◌≡◌, ℕ, List, [], ◌∷◌, map, codes}
+use Rattle.std.specs.Prelude.{String, string_bytes}
+use Rattle.ds_main.specs.declared.job.Job.{Job}
+use Rattle.ds_main.specs.declared.job.Job.TheVariants.{Replay}
+
+-- the bytes of each word
+abbrev pub texts : {Z : Type 0} → List (String Z) → List (List ℕ)
+texts words = map string_bytes words
+
+-- these are the words of the job
+abbrev pub IsJob : List (List ℕ) → Job → Type 0
+IsJob words Replay = words ≡ codes "replay" ∷ []
+
+abbrev pub HasJob : List (List ℕ) → Type 0
+HasJob words = (job : Job) × IsJob words job
+
+abbrev pub NoJob : List (List ℕ) → Type 0
+NoJob words = (job : Job) → IsJob words job → ⊥

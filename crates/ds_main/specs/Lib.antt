@@ -1,0 +1,4 @@
+pub mod Job
+pub mod Input
+pub mod Run
+pub mod Ending

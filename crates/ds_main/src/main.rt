@@ -1,0 +1,48 @@
+//! The program `dangsan`: runs a module of threads and memory on shared words, and reports what happened.
+#![tactic(auto)]
+
+mod deliver;
+mod entry;
+mod job;
+mod pace;
+mod refuse;
+mod run;
+#[cfg(test)]
+mod tests;
+
+use ds_io::{StdSink, StdSource};
+pub use entry::dangsan_main;
+pub use job::{ArgsFault, Job, read_words};
+pub use pace::{FreePace, Pace};
+use std::env;
+use std::env::Env;
+use std::process::ExitCode;
+
+/// The status where the system gives the program no list of words. No call answers it.
+const NO_WORDS: u8 = 10;
+
+/// The words behind the program's name, or `None` where the system does not give them.
+fn words_of(rt: &(impl Env + AllocGlobal)) -> Option<Vec<String>> {
+    let mut words = Vec::new(rt.alloc());
+    for word in env::args(rt).ok()?.skip(1) {
+        words.push(word).ok()?;
+    }
+    Some(words)
+}
+
+fn main(rt: HostRuntime) -> ExitCode {
+    let Some(words) = words_of(&rt) else {
+        return ExitCode::from(NO_WORDS);
+    };
+    let mut source = StdSource::new(&rt);
+    let mut sink = StdSink::new(&rt);
+    let ended = dangsan_main(
+        &rt,
+        rt.alloc(),
+        words.as_slice(),
+        &mut source,
+        &mut sink,
+        &FreePace,
+    );
+    ExitCode::from(ended.status)
+}

@@ -1,0 +1,49 @@
+//! Tells a fault, and runs nothing.
+
+ghost use Rattle.std.specs.Prelude.{◌≡◌, ◌⊎◌};
+ghost use Rattle.ds_report.specs.Fault.{fault_text};
+ghost use Rattle.ds_main.specs.Run.{IsEmpty};
+ghost use Rattle.ds_main.specs.Ending.{status_of, Delivers, Unwritten};
+
+use crate::deliver::{OUT_OF_MEMORY, deliver};
+use ds_core::{Ended, RunRecord};
+use ds_io::Sink;
+use ds_report::{Fault, fault_line};
+use std::alloc::Global;
+
+/// The status of a fault.
+fn status_by(fault: Fault) -> u8
+    ensures { result ≡ status_of fault }
+{
+    match fault {
+        Fault::Usage => 2,
+        Fault::Read => 4,
+        Fault::TooLong | Fault::OtherForm => 1,
+    }
+}
+
+/// Ends a call for want of memory, where nothing was run.
+pub fn out_of_memory(alloc: Global) -> Ended
+    ensures status { result.status ≡ 6 }
+    ensures empty { IsEmpty result.run }
+{
+    Ended {
+        status: OUT_OF_MEMORY,
+        run: RunRecord::empty(alloc),
+    }
+}
+
+/// Ends a call by a fault: its line is written, and nothing is run.
+pub fn refuse<K: Sink>(alloc: Global, sink: &mut K, fault: Fault) -> Ended
+    ensures told { Delivers (fault_text fault) (status_of fault) (K.taken sink.old) (K.taken sink.new) (K.faults sink.old) (K.faults sink.new) result.status
+        ⊎ Unwritten (K.taken sink.old) (K.taken sink.new) result.status }
+    ensures empty { IsEmpty result.run }
+{
+    match fault_line(alloc, fault) {
+        Ok(line) => Ended {
+            status: deliver(sink, line.as_slice(), status_by(fault)),
+            run: RunRecord::empty(alloc),
+        },
+        Err(_) => out_of_memory(alloc),
+    }
+}
