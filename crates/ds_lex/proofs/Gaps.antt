@@ -1,7 +1,7 @@
 -- Blanks and comments at the front.
 use Rattle.std.proofs.Common.{◌≡◌, ℕ, ◌≤◌, Bool, true, false, not, ◌==◌, Some, None, List, [], ◌∷◌, ◌++◌, length, take, drop, suc, refl, ◌∙◌, ap, inl, inr, arith}
 use Rattle.ds_lex.specs.declared.bytes.ByteClass.{ByteClass}
-use Rattle.ds_lex.specs.declared.bytes.ByteClass.TheVariants.{Blank, Semicolon, At, Minus, Digit, Letter, Bracket, Other}
+use Rattle.ds_lex.specs.declared.bytes.ByteClass.TheVariants.{Blank, Semicolon, At, Percent, Minus, Digit, Letter, Mark, Other}
 use Rattle.ds_lex.specs.Bytes.{class_of}
 use Rattle.ds_lex.specs.Lexed.{IsGapFrom}
 use Rattle.ds_lex.specs.Scan.{gap_behind, gap_len, opens_comment, comment_behind}
@@ -22,10 +22,11 @@ unfolding gap_len
 by_class b bs Blank e f g = record { gap = inl (e, f.gap); rest = f.rest; within = omega (arith, f.within) }
 by_class b bs Semicolon e f g = record { gap = inr (e, g.gap); rest = g.rest; within = omega (arith, g.within) }
 by_class b bs At e f g = none_here b bs (ap (λ k. gap_behind k (gap_len false bs) (gap_len true bs)) e)
+by_class b bs Percent e f g = none_here b bs (ap (λ k. gap_behind k (gap_len false bs) (gap_len true bs)) e)
 by_class b bs Minus e f g = none_here b bs (ap (λ k. gap_behind k (gap_len false bs) (gap_len true bs)) e)
 by_class b bs Digit e f g = none_here b bs (ap (λ k. gap_behind k (gap_len false bs) (gap_len true bs)) e)
 by_class b bs Letter e f g = none_here b bs (ap (λ k. gap_behind k (gap_len false bs) (gap_len true bs)) e)
-by_class b bs Bracket e f g = none_here b bs (ap (λ k. gap_behind k (gap_len false bs) (gap_len true bs)) e)
+by_class b bs Mark e f g = none_here b bs (ap (λ k. gap_behind k (gap_len false bs) (gap_len true bs)) e)
 by_class b bs Other e f g = none_here b bs (ap (λ k. gap_behind k (gap_len false bs) (gap_len true bs)) e)
 
 in_comment : (b : ℕ) (bs : List ℕ) (n : ℕ) → Found (not (b == 10)) bs n → Found true (b ∷ bs) (suc n)
@@ -54,10 +55,11 @@ some_of_class : (k : ByteClass) (bs : List ℕ) (inside : Bool) → opens_commen
 some_of_class Blank bs inside h = ap (λ (o : Bool). suc (gap_len o bs)) (let e : false ≡ inside = cc in e)
 some_of_class Semicolon bs inside h = ap (λ (o : Bool). suc (gap_len o bs)) (let e : true ≡ inside = cc in e)
 some_of_class At bs inside h = cc
+some_of_class Percent bs inside h = cc
 some_of_class Minus bs inside h = cc
 some_of_class Digit bs inside h = cc
 some_of_class Letter bs inside h = cc
-some_of_class Bracket bs inside h = cc
+some_of_class Mark bs inside h = cc
 some_of_class Other bs inside h = cc
 
 pub gap_some : (inside : Bool) (b : ℕ) (bs : List ℕ) (behind : Bool) → comment_behind inside b ≡ Some behind → gap_len inside (b ∷ bs) ≡ suc (gap_len behind bs)
@@ -69,10 +71,11 @@ none_of_class : (k : ByteClass) (x y : ℕ) → opens_comment k ≡ None → gap
 none_of_class Blank x y h = cc
 none_of_class Semicolon x y h = cc
 none_of_class At x y h = refl
+none_of_class Percent x y h = refl
 none_of_class Minus x y h = refl
 none_of_class Digit x y h = refl
 none_of_class Letter x y h = refl
-none_of_class Bracket x y h = refl
+none_of_class Mark x y h = refl
 none_of_class Other x y h = refl
 
 pub gap_none : (inside : Bool) (b : ℕ) (bs : List ℕ) → comment_behind inside b ≡ None → gap_len inside (b ∷ bs) ≡ 0

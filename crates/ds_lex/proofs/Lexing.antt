@@ -5,7 +5,7 @@ use Rattle.std.proofs.lemmas.Bool.{cases_eq}
 use Rattle.std.specs.Prelude.{MatchBool, IsSome, IfSome}
 use Rattle.std.specs.List.{slice_range}
 use Rattle.ds_lex.specs.declared.token.TokenKind.{TokenKind}
-use Rattle.ds_lex.specs.declared.token.TokenKind.TheVariants.{Word, Global, Number, Punct, End}
+use Rattle.ds_lex.specs.declared.token.TokenKind.TheVariants.{Word, Global, Local, Number, Punct, End}
 use Rattle.ds_lex.specs.declared.token.Token.{Token}
 use Rattle.ds_lex.specs.Number.{number_of}
 use Rattle.ds_lex.specs.Lexed.{IsSpelling, IsTokenAt, LexedFrom, is_end}
@@ -82,6 +82,7 @@ no_number h = cc
 no_empty : (k : TokenKind) → is_end k ≡ false → IsSpelling k [] → ⊥
 no_empty Word e s = s
 no_empty Global e s = s
+no_empty Local e s = s
 no_empty Number e s = no_number s
 no_empty Punct e s = s
 no_empty End e s = cc
@@ -100,6 +101,7 @@ not_empty text at t h e =
 pub is_no_end : (k : TokenKind) → (k ≡ End → ⊥) → is_end k ≡ false
 is_no_end Word h = refl
 is_no_end Global h = refl
+is_no_end Local h = refl
 is_no_end Number h = refl
 is_no_end Punct h = refl
 is_no_end End h = absurd (h refl)

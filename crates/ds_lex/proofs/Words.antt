@@ -5,13 +5,13 @@ use Rattle.std.specs.Option.{IfSome, option_and_then}
 use Rattle.std.specs.List.{list_all}
 use Rattle.std.proofs.lemmas.Bool.Decides.{nat_tests}
 use Rattle.ds_lex.specs.declared.bytes.ByteClass.{ByteClass}
-use Rattle.ds_lex.specs.declared.bytes.ByteClass.TheVariants.{Blank, Semicolon, At, Minus, Digit, Letter, Bracket, Other}
+use Rattle.ds_lex.specs.declared.bytes.ByteClass.TheVariants.{Blank, Semicolon, At, Percent, Minus, Digit, Letter, Mark, Other}
 use Rattle.ds_lex.specs.declared.token.TokenKind.{TokenKind}
-use Rattle.ds_lex.specs.declared.token.TokenKind.TheVariants.{Word, Global, Number, Punct, End}
+use Rattle.ds_lex.specs.declared.token.TokenKind.TheVariants.{Word, Global, Local, Number, Punct, End}
 use Rattle.ds_lex.specs.Bytes.{is_digit, class_of, begins_name, stands_in_name, is_name_byte}
 use Rattle.ds_lex.specs.Number.{extended, magnitude_of, negated, number_of}
 use Rattle.ds_lex.specs.Lexed.{IsSpelling, IsLongest}
-use Rattle.ds_lex.specs.Scan.{name_len, gap_len, gap_behind, global_at, number_at, token_of_class, token_at}
+use Rattle.ds_lex.specs.Scan.{name_len, gap_len, gap_behind, named_at, number_at, token_of_class, token_at}
 use Rattle.ds_lex.proofs.Names.{run, run_only}
 
 -- the token found is one
@@ -24,10 +24,19 @@ global_begun : (b c : ℕ) (cs : List ℕ) (t : Bool) → class_of b ≡ At → 
 global_begun b c cs true e h = let r = run cs in record { spelled = (e, (h, r.all)); longest = r.ends; within = omega (arith, r.within) }
 global_begun b c cs false e h = tt
 
-global_spells : (b : ℕ) (bs : List ℕ) → class_of b ≡ At → IfSome (global_at bs) (Spells (b ∷ bs))
-unfolding global_at
+local_begun : (b c : ℕ) (cs : List ℕ) (t : Bool) → class_of b ≡ Percent → begins_name (class_of c) ≡ t → IfSome (cond t (Some (Local, suc (suc (name_len cs)))) None) (Spells (b ∷ c ∷ cs))
+local_begun b c cs true e h = let r = run cs in record { spelled = (e, (h, r.all)); longest = r.ends; within = omega (arith, r.within) }
+local_begun b c cs false e h = tt
+
+global_spells : (b : ℕ) (bs : List ℕ) → class_of b ≡ At → IfSome (named_at Global bs) (Spells (b ∷ bs))
+unfolding named_at
 global_spells b [] e = tt
 global_spells b (c ∷ cs) e = global_begun b c cs (begins_name (class_of c)) e refl
+
+local_spells : (b : ℕ) (bs : List ℕ) → class_of b ≡ Percent → IfSome (named_at Local bs) (Spells (b ∷ bs))
+unfolding named_at
+local_spells b [] e = tt
+local_spells b (c ∷ cs) e = local_begun b c cs (begins_name (class_of c)) e refl
 
 number_judged : (bytes : List ℕ) (t : Bool) → is_some (number_of (take (name_len bytes) bytes)) ≡ t → IfSome (cond t (Some (Number, name_len bytes)) None) (Spells bytes)
 number_judged bytes true h = let r = run bytes in record { spelled = h; longest = r.ends; within = r.within }
@@ -40,9 +49,10 @@ number_spells bytes = number_judged bytes (is_some (number_of (take (name_len by
 spells_of_class : (b : ℕ) (bs : List ℕ) (k : ByteClass) → class_of b ≡ k → IfSome (token_of_class k b bs) (Spells (b ∷ bs))
 spells_of_class b bs Letter e = let r = run bs in record { spelled = (e, r.all); longest = r.ends; within = omega (arith, r.within) }
 spells_of_class b bs At e = global_spells b bs e
+spells_of_class b bs Percent e = local_spells b bs e
 spells_of_class b bs Minus e = number_spells (b ∷ bs)
 spells_of_class b bs Digit e = number_spells (b ∷ bs)
-spells_of_class b bs Bracket e = record { spelled = (e, refl); longest = tt; within = omega arith }
+spells_of_class b bs Mark e = record { spelled = (e, refl); longest = tt; within = omega arith }
 spells_of_class b bs Blank e = tt
 spells_of_class b bs Semicolon e = tt
 spells_of_class b bs Other e = tt
@@ -121,7 +131,7 @@ number_taken word rest h n = rw (n, take_at word rest (length word) refl, h) ref
 
 -- a spelling of a kind is found, where it is the longest one
 pub token_only : (kind : TokenKind) (word rest : List ℕ) → IsSpelling kind word → IsLongest kind rest → token_at (word ++ rest) ≡ Some (kind, length word)
-unfolding token_at global_at
+unfolding token_at named_at
 token_only Word [] rest s l = absurd s
 token_only Word (b ∷ bs) rest s l =
     ap (λ k. token_of_class k b (bs ++ rest)) s.0 ∙ ap (λ (n : ℕ). Some (Word, suc n)) (run_only bs rest s.1 l)
@@ -131,6 +141,12 @@ token_only Global (b ∷ c ∷ cs) rest s l =
     ap (λ k. token_of_class k b (c ∷ cs ++ rest)) s.0
     ∙ ap (λ t. cond t (Some (Global, suc (suc (name_len (cs ++ rest))))) None) s.1.0
     ∙ ap (λ (n : ℕ). Some (Global, suc (suc n))) (run_only cs rest s.1.1 l)
+token_only Local [] rest s l = absurd s
+token_only Local (b ∷ []) rest s l = absurd s.1
+token_only Local (b ∷ c ∷ cs) rest s l =
+    ap (λ k. token_of_class k b (c ∷ cs ++ rest)) s.0
+    ∙ ap (λ t. cond t (Some (Local, suc (suc (name_len (cs ++ rest))))) None) s.1.0
+    ∙ ap (λ (n : ℕ). Some (Local, suc (suc n))) (run_only cs rest s.1.1 l)
 token_only Number [] rest s l = absurd (number_none s)
 token_only Number (b ∷ bs) rest s l =
     let p = number_bytes b bs s in
@@ -144,10 +160,11 @@ begins_of_class : (k : ByteClass) (b : ℕ) (bs : List ℕ) (found : TokenKind �
 begins_of_class Blank b bs found x y h = cc
 begins_of_class Semicolon b bs found x y h = cc
 begins_of_class At b bs found x y h = refl
+begins_of_class Percent b bs found x y h = refl
 begins_of_class Minus b bs found x y h = refl
 begins_of_class Digit b bs found x y h = refl
 begins_of_class Letter b bs found x y h = refl
-begins_of_class Bracket b bs found x y h = refl
+begins_of_class Mark b bs found x y h = refl
 begins_of_class Other b bs found x y h = refl
 
 -- where a token begins, no gap does

@@ -1,7 +1,7 @@
 -- The bytes of a text and what they may be part of. A byte above 127 stands in no token, but may stand in a comment.
 use Rattle.std.specs.Prelude.{ℕ, Bool, true, false, ◌||◌, ◌&&◌, ◌==◌, nat_le, if◌then◌else◌}
 use Rattle.ds_lex.specs.declared.bytes.ByteClass.{ByteClass}
-use Rattle.ds_lex.specs.declared.bytes.ByteClass.TheVariants.{Blank, Semicolon, At, Minus, Digit, Letter, Bracket, Other}
+use Rattle.ds_lex.specs.declared.bytes.ByteClass.TheVariants.{Blank, Semicolon, At, Percent, Minus, Digit, Letter, Mark, Other}
 
 -- space, tab, carriage return, line feed
 abbrev pub is_blank : ℕ → Bool
@@ -15,21 +15,22 @@ is_digit b = nat_le 48 b && nat_le b 57
 abbrev pub is_letter : ℕ → Bool
 is_letter b = (nat_le 65 b && nat_le b 90) || (nat_le 97 b && nat_le b 122) || b == 36 || b == 46 || b == 95
 
--- ( ) { }
-abbrev pub is_bracket : ℕ → Bool
-is_bracket b = b == 40 || b == 41 || b == 123 || b == 125
+-- ( ) { } = ,
+abbrev pub is_mark : ℕ → Bool
+is_mark b = b == 40 || b == 41 || b == 123 || b == 125 || b == 61 || b == 44
 
--- the class of a byte; ; is 59, @ is 64, - is 45
+-- the class of a byte; ; is 59, @ is 64, % is 37, - is 45
 unfoldable pub class_of : ℕ → ByteClass
 class_of b =
     if is_blank b then Blank
     else (if b == 59 then Semicolon
     else (if b == 64 then At
+    else (if b == 37 then Percent
     else (if b == 45 then Minus
     else (if is_digit b then Digit
     else (if is_letter b then Letter
-    else (if is_bracket b then Bracket
-    else Other))))))
+    else (if is_mark b then Mark
+    else Other)))))))
 
 -- a letter or - begins a name
 abbrev pub begins_name : ByteClass → Bool
@@ -38,8 +39,9 @@ begins_name Minus = true
 begins_name Blank = false
 begins_name Semicolon = false
 begins_name At = false
+begins_name Percent = false
 begins_name Digit = false
-begins_name Bracket = false
+begins_name Mark = false
 begins_name Other = false
 
 -- a letter, - or a digit stands in a name behind its first byte
@@ -50,7 +52,8 @@ stands_in_name Digit = true
 stands_in_name Blank = false
 stands_in_name Semicolon = false
 stands_in_name At = false
-stands_in_name Bracket = false
+stands_in_name Percent = false
+stands_in_name Mark = false
 stands_in_name Other = false
 
 -- the bytes that may stand in a name behind its first byte

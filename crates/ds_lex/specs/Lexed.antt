@@ -1,9 +1,9 @@
 -- The tokens of a text.
 use Rattle.std.specs.Prelude.{◌≡◌, ℕ, ◌≤◌, Bool, true, false, not, ◌==◌, ◌⊎◌, List, [], ◌∷◌, length, drop, slice_range, IsTrue, IsFalse, IsSome, MatchBool}
 use Rattle.std.specs.List.{list_all}
-use Rattle.ds_lex.specs.declared.bytes.ByteClass.TheVariants.{Blank, Semicolon, At, Letter, Bracket}
+use Rattle.ds_lex.specs.declared.bytes.ByteClass.TheVariants.{Blank, Semicolon, At, Percent, Letter, Mark}
 use Rattle.ds_lex.specs.declared.token.TokenKind.{TokenKind}
-use Rattle.ds_lex.specs.declared.token.TokenKind.TheVariants.{Word, Global, Number, Punct, End}
+use Rattle.ds_lex.specs.declared.token.TokenKind.TheVariants.{Word, Global, Local, Number, Punct, End}
 use Rattle.ds_lex.specs.declared.token.Token.{Token}
 use Rattle.ds_lex.specs.Bytes.{class_of, begins_name, is_name_byte}
 use Rattle.ds_lex.specs.Number.{number_of}
@@ -32,15 +32,21 @@ abbrev pub IsGlobal : List ℕ → Type 0
 IsGlobal [] = ⊥
 IsGlobal (b ∷ bs) = (class_of b ≡ At) × IsName bs
 
--- one bracket
+-- % and a name
+abbrev pub IsLocal : List ℕ → Type 0
+IsLocal [] = ⊥
+IsLocal (b ∷ bs) = (class_of b ≡ Percent) × IsName bs
+
+-- one bracket, = or ,
 abbrev pub IsPunct : List ℕ → Type 0
 IsPunct [] = ⊥
-IsPunct (b ∷ bs) = (class_of b ≡ Bracket) × (bs ≡ [])
+IsPunct (b ∷ bs) = (class_of b ≡ Mark) × (bs ≡ [])
 
 -- the spellings of each kind of token
 abbrev pub IsSpelling : TokenKind → List ℕ → Type 0
 IsSpelling Word word = IsWord word
 IsSpelling Global word = IsGlobal word
+IsSpelling Local word = IsLocal word
 IsSpelling Number word = IsSome (number_of word)
 IsSpelling Punct word = IsPunct word
 IsSpelling End word = word ≡ []
@@ -54,6 +60,7 @@ goes_on (b ∷ bs) = is_name_byte b
 abbrev pub IsLongest : TokenKind → List ℕ → Type 0
 IsLongest Word rest = IsFalse (goes_on rest)
 IsLongest Global rest = IsFalse (goes_on rest)
+IsLongest Local rest = IsFalse (goes_on rest)
 IsLongest Number rest = IsFalse (goes_on rest)
 IsLongest Punct rest = Unit {0}
 IsLongest End rest = rest ≡ []
@@ -75,6 +82,7 @@ pub record IsTokenAt (text : List ℕ) (at : ℕ) (t : Token) : Type 0 where
 abbrev pub is_end : TokenKind → Bool
 is_end Word = false
 is_end Global = false
+is_end Local = false
 is_end Number = false
 is_end Punct = false
 is_end End = true

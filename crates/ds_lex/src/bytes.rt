@@ -11,14 +11,16 @@ pub enum ByteClass {
     Semicolon,
     /// `@`, which begins the name of a global.
     At,
+    /// `%`, which begins the name of a local.
+    Percent,
     /// `-`, a sign or a part of a name.
     Minus,
     /// `0` to `9`.
     Digit,
     /// `A` to `Z`, `a` to `z`, `$`, `.` and `_`.
     Letter,
-    /// One of `(`, `)`, `{` and `}`.
-    Bracket,
+    /// One of `(`, `)`, `{`, `}`, `=` and `,`.
+    Mark,
     /// Any other byte, which begins no token.
     Other,
 }
@@ -32,10 +34,11 @@ pub fn class_of(byte: u8) -> ByteClass
         b' ' | b'\t' | b'\r' | b'\n' => ByteClass::Blank,
         b';' => ByteClass::Semicolon,
         b'@' => ByteClass::At,
+        b'%' => ByteClass::Percent,
         b'-' => ByteClass::Minus,
         b'0'..=b'9' => ByteClass::Digit,
         b'A'..=b'Z' | b'a'..=b'z' | b'$' | b'.' | b'_' => ByteClass::Letter,
-        b'(' | b')' | b'{' | b'}' => ByteClass::Bracket,
+        b'(' | b')' | b'{' | b'}' | b'=' | b',' => ByteClass::Mark,
         _ => ByteClass::Other,
     }
 }

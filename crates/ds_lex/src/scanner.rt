@@ -110,24 +110,23 @@ fn token_at(bytes: &[u8]) -> Option<(TokenKind, usize)>
         [] => Some((TokenKind::End, 0)),
         [first, rest @ ..] => match class_of(*first) {
             ByteClass::Letter => Some((TokenKind::Word, 1 + name_len(rest))),
-            ByteClass::At => global_at(rest),
+            ByteClass::At => named_at(TokenKind::Global, rest),
+            ByteClass::Percent => named_at(TokenKind::Local, rest),
             ByteClass::Minus | ByteClass::Digit => number_at(bytes),
-            ByteClass::Bracket => Some((TokenKind::Punct, 1)),
+            ByteClass::Mark => Some((TokenKind::Punct, 1)),
             ByteClass::Blank | ByteClass::Semicolon | ByteClass::Other => None,
         },
     }
 }
 
-/// The global that the bytes behind an `@` begin with.
-#[tactic(auto, unfolding(crate::specs::Scan::global_at))]
-fn global_at(rest: &[u8]) -> Option<(TokenKind, usize)>
-    ensures { result ≡ scan.global_at rest.now }
+/// The token of this kind that the bytes behind an `@` or a `%` begin with.
+#[tactic(auto, unfolding(crate::specs::Scan::named_at))]
+fn named_at(kind: TokenKind, rest: &[u8]) -> Option<(TokenKind, usize)>
+    ensures { result ≡ scan.named_at kind rest.now }
 {
     match rest {
         [] => None,
-        [first, more @ ..] => {
-            begins_name(*first).then_some((TokenKind::Global, 2 + name_len(more)))
-        }
+        [first, more @ ..] => { begins_name(*first).then_some((kind, 2 + name_len(more))) }
     }
 }
 

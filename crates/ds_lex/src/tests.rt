@@ -18,11 +18,11 @@ fn token(kind: TokenKind, start: u32, end: u32) -> Token {
 }
 
 #[test]
-fn texts_and_their_tokens(rt: HostRuntime) -> Result<(), Fail> {
-    use TokenKind::{End, Global, Number, Punct, Word};
+fn tokens_of_texts(rt: HostRuntime) -> Result<(), Fail> {
+    use TokenKind::{End, Global, Local, Number, Punct, Word};
 
     let alloc = rt.alloc();
-    let table: [(&str, &[Token]); 20] = [
+    let table: [(&str, &[Token]); 13] = [
         ("", &[token(End, 0, 0)]),
         (" \t\r\n", &[token(End, 4, 4)]),
         (
@@ -50,6 +50,18 @@ fn texts_and_their_tokens(rt: HostRuntime) -> Result<(), Fail> {
         (";;a\n;\n}", &[token(Punct, 6, 7), token(End, 7, 7)]),
         ("$.a_-9", &[token(Word, 0, 6), token(End, 6, 6)]),
         ("@-a", &[token(Global, 0, 3), token(End, 3, 3)]),
+        ("%-a", &[token(Local, 0, 3), token(End, 3, 3)]),
+        (
+            "%x=load,@g",
+            &[
+                token(Local, 0, 2),
+                token(Punct, 2, 3),
+                token(Word, 3, 7),
+                token(Punct, 7, 8),
+                token(Global, 8, 10),
+                token(End, 10, 10),
+            ],
+        ),
         (
             "18446744073709551615",
             &[token(Number, 0, 20), token(End, 20, 20)],
@@ -58,18 +70,32 @@ fn texts_and_their_tokens(rt: HostRuntime) -> Result<(), Fail> {
             "-9223372036854775808",
             &[token(Number, 0, 20), token(End, 20, 20)],
         ),
-        ("18446744073709551616", &[]),
-        ("-9223372036854775809", &[]),
-        ("12ab", &[]),
-        ("1-2", &[]),
-        ("-", &[]),
-        ("-a", &[]),
-        ("@12", &[]),
-        ("+1", &[]),
-        ("a:", &[]),
     ];
     for (text, wanted) in table {
         expect_tokens(&rt, alloc, text, wanted);
+    }
+    Ok(())
+}
+
+#[test]
+fn texts_without_tokens(rt: HostRuntime) -> Result<(), Fail> {
+    let alloc = rt.alloc();
+    let table = [
+        "18446744073709551616",
+        "-9223372036854775809",
+        "12ab",
+        "1-2",
+        "-",
+        "-a",
+        "@12",
+        "%12",
+        "%",
+        "%%a",
+        "+1",
+        "a:",
+    ];
+    for text in table {
+        expect_tokens(&rt, alloc, text, &[]);
     }
     Ok(())
 }

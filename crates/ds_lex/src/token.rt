@@ -10,9 +10,11 @@ pub enum TokenKind {
     Word,
     /// `@` and a name.
     Global,
+    /// `%` and a name.
+    Local,
     /// One or more decimal digits, maybe behind a `-`, with a value from -2^63 to 2^64 - 1.
     Number,
-    /// One of `(`, `)`, `{` and `}`.
+    /// One of `(`, `)`, `{`, `}`, `=` and `,`.
     Punct,
     /// The end of the text. It is empty, and the last token.
     End,

@@ -1,4 +1,8 @@
-pub mod Steps
-pub mod Bodies
 pub mod Spans
+pub mod Steps
+pub mod SoFar
+pub mod NamesIn
+pub mod InstructionAt
+pub mod GlobalAt
+pub mod WellFormed
 pub mod Modules

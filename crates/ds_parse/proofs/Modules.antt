@@ -1,9 +1,11 @@
 -- From the parts of a module to the whole.
-use Rattle.std.proofs.Common.{◌≡◌, ℕ, ◌≤◌, Some, None, List, [], ◌++◌, length, take, drop, sym, ◌∙◌, ap, subst, append_assoc, append-nil, take-append-drop}
+use Rattle.std.proofs.Common.{◌≡◌, ℕ, Some, None, List, [], ◌++◌, take, drop, sym, ◌∙◌, ap, subst, append_assoc, append-nil, take-append-drop}
 use Rattle.std.specs.Prelude.{Result, Err, MatchResult}
 use Rattle.ds_lex.specs.declared.token.Token.{Token}
 use Rattle.ds_lex.specs.Lexed.{Lexed}
-use Rattle.ds_parse.specs.Form.{Lexeme, opening, closing, IsBody, Form, lexemes}
+use Rattle.ds_small.specs.declared.SmallOp.{SmallOp}
+use Rattle.ds_small.specs.Module.{Module}
+use Rattle.ds_parse.specs.Form.{Lexeme, Names, no_names, opening, closing, IsBody, lexemes}
 use Rattle.ds_parse.specs.Reading.{prefix_at}
 use Rattle.ds_parse.specs.declared.fault.ParseFault.{ParseFault}
 use Rattle.ds_parse.specs.declared.fault.ParseFault.TheVariants.{OtherForm, Memory}
@@ -11,7 +13,7 @@ use Rattle.ds_parse.proofs.Steps.{prefix_is, prefix_of}
 use Rattle.ds_parse.proofs.Spans.{end_last}
 
 -- nothing stands behind the closing
-closed : (text : List ℕ) (ts : List Token) (at n : ℕ) → Lexed text ts → prefix_at (lexemes text ts) closing at ≡ Some n → drop at (lexemes text ts) ≡ closing
+pub closed : (text : List ℕ) (ts : List Token) (at n : ℕ) → Lexed text ts → prefix_at (lexemes text ts) closing at ≡ Some n → drop at (lexemes text ts) ≡ closing
 closed text ts at n l h =
     let ls = lexemes text ts in
     let p = prefix_is ls closing at n h in
@@ -19,24 +21,23 @@ closed text ts at n l h =
     let e = sym (take-append-drop at ls) ∙ ap (λ (r : List Lexeme). take at ls ++ r) p ∙ sym (append_assoc (take at ls) front (drop 9 closing ++ drop n ls)) in
     p ∙ ap (λ (r : List Lexeme). closing ++ r) (end_last text 0 ts (take at ls ++ front) [] (drop n ls) l e) ∙ append-nil closing
 
-pub form_found : (text : List ℕ) (ts : List Token) (body at n : ℕ) (values : List ℕ) → Lexed text ts → prefix_at (lexemes text ts) opening 0 ≡ Some body → prefix_at (lexemes text ts) closing at ≡ Some n
-    → length values ≤ 199999 → (drop at (lexemes text ts) ≡ closing → IsBody (drop body (lexemes text ts)) values) → Form (lexemes text ts) values
-form_found text ts body at n values l o c few b =
-    (few, drop body (lexemes text ts), prefix_is (lexemes text ts) opening 0 body o, b (closed text ts at n l c))
+-- main stands at a place
+abbrev pub MainAt : List Lexeme → Names → ℕ → List SmallOp → Type 0
+MainAt ls names at code = (rest : List Lexeme) × (drop at ls ≡ opening ++ rest) × IsBody names no_names 0 rest code
 
 -- what stands behind the opening
-pub form_body : (ls : List Lexeme) (body : ℕ) (values : List ℕ) → Form ls values → prefix_at ls opening 0 ≡ Some body → (length values ≤ 199999) × IsBody (drop body ls) values
-form_body ls body values f o =
-    let p = prefix_of ls opening 0 f.1 f.2 in
+pub main_body : (ls : List Lexeme) (names : Names) (at body : ℕ) (code : List SmallOp) → MainAt ls names at code → prefix_at ls opening at ≡ Some body → IsBody names no_names 0 (drop body ls) code
+main_body ls names at body code m o =
+    let p = prefix_of ls opening at m.0 m.1 in
     let e : p.0 ≡ body = cc in
-    let P : List Lexeme → Type 0 = λ r. IsBody r values in
-    (f.0, subst P (sym p.2 ∙ ap (λ (i : ℕ). drop i ls) e) f.3)
+    let P : List Lexeme → Type 0 = λ r. IsBody names no_names 0 r code in
+    subst P (sym p.2 ∙ ap (λ (i : ℕ). drop i ls) e) m.2
 
-pub form_begins : (ls : List Lexeme) (values : List ℕ) → Form ls values → prefix_at ls opening 0 ≡ None → ⊥
-form_begins ls values f o = let p = prefix_of ls opening 0 f.1 f.2 in cc (p.1, o)
+pub main_begins : (ls : List Lexeme) (names : Names) (at : ℕ) (code : List SmallOp) → MainAt ls names at code → prefix_at ls opening at ≡ None → ⊥
+main_begins ls names at code m o = let p = prefix_of ls opening at m.0 m.1 in cc (p.1, o)
 
-pub form_ends : (ls : List Lexeme) (at : ℕ) → drop at ls ≡ closing → prefix_at ls closing at ≡ None → ⊥
-form_ends ls at c o = let p = prefix_of ls closing at [] (c ∙ sym (append-nil closing)) in cc (p.1, o)
+pub main_ends : (ls : List Lexeme) (at : ℕ) → drop at ls ≡ closing → prefix_at ls closing at ≡ None → ⊥
+main_ends ls at c o = let p = prefix_of ls closing at [] (c ∙ sym (append-nil closing)) in cc (p.1, o)
 
 -- memory ran out
 pub at_memory : {X : Type 0} (r : Result X ParseFault) (P : X → Type 0) (fault : ParseFault) → r ≡ Err fault → fault ≡ Memory → MatchResult r P (λ f. f ≡ Memory)
@@ -45,3 +46,9 @@ at_memory {X} r P fault h m = let Q : Result X ParseFault → Type 0 = λ r. Mat
 -- the module is read or memory runs out, so there is no other fault
 pub no_other_form : {X : Type 0} (r : Result X ParseFault) (P : X → Type 0) → MatchResult r P (λ fault. fault ≡ Memory) → r ≡ Err OtherForm → ⊥
 no_other_form {X} r P m h = let Q : Result X ParseFault → Type 0 = λ r. MatchResult r P (λ fault. fault ≡ Memory) in let e = subst Q h m in cc (e)
+
+abbrev pub module_of : List ℕ → List SmallOp → Module
+module_of globals code = record { globals = globals; code = code }
+
+pub same_module : (globals : List ℕ) (code : List SmallOp) (small : Module) → globals ≡ small.globals → code ≡ small.code → module_of globals code ≡ small
+same_module globals code small g o = ap (λ gs. module_of gs code) g ∙ ap (module_of small.globals) o

@@ -3,7 +3,7 @@ ghost use Rattle.std.specs.Prelude.{◌≡◌, ◌<◌, ◌≤◌, length, map, 
 ghost use Rattle.ds_lex.specs.Lexed as lexed;
 ghost use Rattle.ds_lex.specs.Lexed.{Lexed};
 ghost use Rattle.ds_parse.specs.Form.{lexemes};
-ghost use Rattle.ds_parse.specs.Reading.{same_kind, step_at, prefix_at, number_at};
+ghost use Rattle.ds_parse.specs.Reading.{same_kind, step_at, prefix_at, name_at, number_at};
 
 use ds_lex::{Token, TokenKind, number_of};
 
@@ -17,7 +17,7 @@ fn spelling<'a>(text: &'a [u8], token: &Token) -> &'a [u8]
 }
 
 /// The kind and the bytes of the token at a place.
-fn lexeme<'a>(text: &'a [u8], tokens: &[Token], at: usize) -> Option<(TokenKind, &'a [u8])>
+pub fn lexeme<'a>(text: &'a [u8], tokens: &[Token], at: usize) -> Option<(TokenKind, &'a [u8])>
     requires { Lexed text.now tokens.now }
     ensures found { option_map (λ l. (l.0, l.1.now)) result ≡ slice_get (lexemes text.now tokens.now) at }
     ensures within { IsSome result → at < length tokens.now }
@@ -67,6 +67,17 @@ pub fn prefix(
     Some(next)
 }
 
+/// The bytes of the token at a place, if it has this kind.
+#[tactic(auto, unfolding(crate::specs::Reading::name_at))]
+pub fn name<'a>(text: &'a [u8], tokens: &[Token], at: usize, kind: TokenKind) -> Option<&'a [u8]>
+    requires { Lexed text.now tokens.now }
+    ensures found { option_map (λ n. n.now) result ≡ name_at (lexemes text.now tokens.now) kind at }
+    ensures within { IsSome result → at < length tokens.now }
+{
+    let (found, spelling) = lexeme(text, tokens, at)?;
+    same_kind(found, kind).then_some(spelling)
+}
+
 /// The value of the number at a place.
 #[tactic(auto, unfolding(crate::specs::Reading::number_at))]
 pub fn number(text: &[u8], tokens: &[Token], at: usize) -> Option<u64>
@@ -74,8 +85,6 @@ pub fn number(text: &[u8], tokens: &[Token], at: usize) -> Option<u64>
     ensures value { result ≡ number_at (lexemes text.now tokens.now) at }
     ensures within { IsSome result → at < length tokens.now }
 {
-    match lexeme(text, tokens, at)? {
-        (TokenKind::Number, spelling) => number_of(spelling),
-        _ => None,
-    }
+    let spelling = name(text, tokens, at, TokenKind::Number)?;
+    number_of(spelling)
 }

@@ -1,8 +1,11 @@
-//! From the text of a module to what it prints.
+//! From the text of a module to its globals and instructions.
 #![tactic(auto)]
 
 mod fault;
+mod globals;
+mod instructions;
 mod lexemes;
+mod names;
 mod parser;
 
 pub use fault::ParseFault;

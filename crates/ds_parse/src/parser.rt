@@ -1,19 +1,22 @@
-//! From the text of a module to what it prints.
-ghost use Rattle.std.specs.Prelude.{◌≡◌, ◌≤◌, ℕ, List, length, drop, Err, IfOk, MatchResult};
+//! From the text of a module to its globals and instructions.
+ghost use Rattle.std.specs.Prelude.{◌≡◌, ◌≤◌, length, count_by, Err, IfOk, MatchResult};
 ghost use Rattle.ds_lex.specs.Lexed.{Lexed};
-ghost use Rattle.ds_parse.specs.Form.{closing, IsBody, Form, lexemes, Text};
-ghost use Rattle.ds_parse.specs.Reading.{call_at};
+ghost use Rattle.ds_parse.specs.Form.{Form, lexemes, Text};
+ghost use Rattle.ds_small.specs.Module.{Module, IsWellFormed, is_load};
 
 use crate::fault::ParseFault;
-use crate::lexemes::{number, prefix, step};
+use crate::globals::globals;
+use crate::instructions::instructions;
+use crate::lexemes::prefix;
 use ds_lex::{Token, TokenKind, lex};
-use ds_small::Small;
-use std::alloc::{AllocError, Global};
+use ds_small::{Small, SmallOp};
+use std::alloc::Global;
+use std::collections::BTreeMap;
 
-/// How many values a module prints at most.
-const MAX_PRINTS: usize = 199_999;
+/// How many loads a module has at most.
+const MAX_LOADS: usize = 65_536;
 
-/// What stands before the calls: `define void @main() {`.
+/// What stands before the instructions: `define void @main() {`.
 const OPENING: [(TokenKind, &[u8]); 6] = [
     (TokenKind::Word, b"define"),
     (TokenKind::Word, b"void"),
@@ -23,16 +26,7 @@ const OPENING: [(TokenKind, &[u8]); 6] = [
     (TokenKind::Punct, b"{"),
 ];
 
-/// A call up to its number: `call void @print_i64(i64`.
-const CALL_FRONT: [(TokenKind, &[u8]); 5] = [
-    (TokenKind::Word, b"call"),
-    (TokenKind::Word, b"void"),
-    (TokenKind::Global, b"@print_i64"),
-    (TokenKind::Punct, b"("),
-    (TokenKind::Word, b"i64"),
-];
-
-/// What stands behind the calls: `ret void } declare void @print_i64(i64)` and the end.
+/// What stands behind the instructions: `ret void } declare void @print_i64(i64)` and the end.
 const CLOSING: [(TokenKind, &[u8]); 10] = [
     (TokenKind::Word, b"ret"),
     (TokenKind::Word, b"void"),
@@ -46,77 +40,57 @@ const CLOSING: [(TokenKind, &[u8]); 10] = [
     (TokenKind::End, b""),
 ];
 
-/// The module that a text of at most 8,388,608 bytes spells: a function `main` that prints at most 199,999
-/// integers, and the declaration of `print_i64`.
+/// The module that a text of at most 8,388,608 bytes spells: at most 4,096 globals, a function `main` of at most
+/// 199,999 instructions beside its return, of which at most 65,536 are loads, and the declaration of `print_i64`.
+/// Each name is defined once and before it is used.
 ///
 /// `OtherForm` comes exactly where the text spells no such module. `Memory` comes where there is not enough
-/// memory for its tokens or its values.
+/// memory for its tokens, its names or its instructions.
 pub fn parse(alloc: Global, text: &[u8]) -> Result<Small, ParseFault>
     requires { length text.now ≤ 8388608 }
     ensures spelled { IfOk result (λ small. Text text.now small) }
+    ensures well_formed { IfOk result (λ small. IsWellFormed small) }
     // A text spells one module at most, and each text that spells one is read, if there is memory.
-    ensures only { (small : List ℕ) → Text text.now small →
+    ensures only { (small : Module) → Text text.now small →
         MatchResult result (λ found. found ≡ small) (λ fault. fault ≡ ParseFault.Memory) }
-    ensures other_form { result ≡ Err ParseFault.OtherForm → (small : List ℕ) → Text text.now small → ⊥ }
+    ensures other_form { result ≡ Err ParseFault.OtherForm → (small : Module) → Text text.now small → ⊥ }
 {
     let tokens = lex(alloc, text)?;
-    let prints = module(alloc, text, tokens.as_slice())?;
-    Ok(Small::new(prints))
+    module(alloc, text, tokens.as_slice())
 }
 
-/// The values that a module with these tokens prints.
-fn module(alloc: Global, text: &[u8], tokens: &[Token]) -> Result<Vec<u64>, ParseFault>
+/// The module with these tokens.
+fn module(alloc: Global, text: &[u8], tokens: &[Token]) -> Result<Small, ParseFault>
     requires { Lexed text.now tokens.now }
-    ensures form { IfOk result (λ prints. Form (lexemes text.now tokens.now) prints.items) }
-    ensures only { (values : List ℕ) → Form (lexemes text.now tokens.now) values →
-        MatchResult result (λ prints. prints.items ≡ values) (λ fault. fault ≡ ParseFault.Memory) }
+    ensures form { IfOk result (λ small. Form (lexemes text.now tokens.now) small) }
+    ensures only { (small : Module) → Form (lexemes text.now tokens.now) small →
+        MatchResult result (λ found. found ≡ small) (λ fault. fault ≡ ParseFault.Memory) }
 {
-    let body = prefix(text, tokens, 0, &OPENING).ok_or(ParseFault::OtherForm)?;
-    let Ok((prints, end)) = calls(alloc, text, tokens, body) else {
+    let mut names = BTreeMap::new(alloc);
+    let Ok((values, opening)) = globals(alloc, text, tokens, &mut names) else {
+        return Err(ParseFault::Memory);
+    };
+    let body = prefix(text, tokens, opening, &OPENING).ok_or(ParseFault::OtherForm)?;
+    let Ok((code, end)) = instructions(alloc, text, tokens, body, &names) else {
         return Err(ParseFault::Memory);
     };
     let _behind = prefix(text, tokens, end, &CLOSING).ok_or(ParseFault::OtherForm)?;
-    Ok(prints)
-}
-
-/// The values that the calls from a place on print, and the place behind them. It takes calls as long as one
-/// stands there, and as many as a module may have.
-fn calls(
-    alloc: Global,
-    text: &[u8],
-    tokens: &[Token],
-    at: usize,
-) -> Result<(Vec<u64>, usize), AllocError>
-    requires { Lexed text.now tokens.now }
-    ensures few { IfOk result (λ found. length found.0.items ≤ 199999) }
-    ensures body { IfOk result (λ found. drop found.1 (lexemes text.now tokens.now) ≡ closing →
-        IsBody (drop at (lexemes text.now tokens.now)) found.0.items) }
-    ensures only { IfOk result (λ found. (values : List ℕ) → length values ≤ 199999 →
-        IsBody (drop at (lexemes text.now tokens.now)) values →
-        (found.0.items ≡ values) × (drop found.1 (lexemes text.now tokens.now) ≡ closing)) }
-{
-    let mut prints = Vec::new(alloc);
-    let mut next = at;
-    while prints.len() < MAX_PRINTS {
-        match call(text, tokens, next) {
-            Some((value, behind)) => {
-                prints.push(value)?;
-                next = behind;
-            }
-            None => return Ok((prints, next)),
-        }
+    if loads(&code) > MAX_LOADS {
+        return Err(ParseFault::OtherForm);
     }
-    Ok((prints, next))
+    Ok(Small::new(values, code))
 }
 
-/// The value that the call at a place prints, and the place behind the call.
-#[tactic(auto, unfolding(crate::specs::Reading::call_at))]
-fn call(text: &[u8], tokens: &[Token], at: usize) -> Option<(u64, usize)>
-    requires { Lexed text.now tokens.now }
-    ensures { result ≡ call_at (lexemes text.now tokens.now) at }
+/// How many of the instructions are loads.
+fn loads(code: &[SmallOp]) -> usize
+    ensures { result ≡ count_by is_load code.now }
 {
-    let behind = prefix(text, tokens, at, &CALL_FRONT)?;
-    let value = number(text, tokens, behind)?;
-    let next = step(text, tokens, behind + 1, TokenKind::Punct, b")")?;
-    Some((value, next))
+    code.iter().filter(|op| is_load(**op)).count()
+}
+
+/// Whether an instruction is a load.
+fn is_load(op: SmallOp) -> bool
+    ensures { result ≡ is_load op }
+{
+    matches!(op, SmallOp::Load { .. })
 }

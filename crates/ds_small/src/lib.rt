@@ -1,37 +1,87 @@
-//! A module of the smallest subset: one function `main` that prints numbers, one after another.
+//! A module of the smallest subset: globals, and one function `main` of loads, stores and prints in a row.
 #![tactic(auto)]
 
 ghost use Rattle.std.specs.Prelude.{◌≡◌};
 
 use std::marker::Model;
 
-/// A module whose `main` prints a list of integers and returns. Contracts see it as the values that it prints,
-/// in the order in which it prints them, each modulo 2^64: -1 is 2^64 - 1.
+/// An address that a load reads or a store writes.
+#[derive(Clone, Copy, Debug, PartialEq, Eq)]
+pub enum SmallAddress {
+    /// The global with this number, from 0 in the order of the text.
+    Global(u32),
+    /// The null pointer.
+    Null,
+}
+
+/// A value that an instruction uses.
+#[derive(Clone, Copy, Debug, PartialEq, Eq)]
+pub enum SmallValue {
+    /// A number modulo 2^64: -1 is 2^64 - 1.
+    Number(u64),
+    /// What the load gave that is the instruction with this number, from 0.
+    Result(u32),
+}
+
+/// An instruction of `main`.
+#[derive(Clone, Copy, Debug, PartialEq, Eq)]
+pub enum SmallOp {
+    /// Reads 64 bits at an address.
+    Load {
+        /// Where it reads.
+        at: SmallAddress,
+    },
+    /// Writes 64 bits at an address.
+    Store {
+        /// What it writes.
+        value: SmallValue,
+        /// Where it writes.
+        at: SmallAddress,
+    },
+    /// Prints a value as a signed 64-bit number.
+    Print {
+        /// What it prints.
+        value: SmallValue,
+    },
+}
+
+/// A module whose `main` runs loads, stores and prints, one after another, and returns. Contracts see it as the
+/// values that its globals begin with and its instructions.
 #[derive(Debug, Drop)]
 pub struct Small {
-    prints: Vec<u64>,
+    globals: Vec<u64>,
+    code: Vec<SmallOp>,
 }
 
 impl Model for Small {
-    ghost use Rattle.std.specs.Prelude.{ℕ, List};
+    ghost use Rattle.ds_small.specs.Module.{Module};
 
-    ghost Value = { List ℕ };
+    ghost Value = { Module };
 
-    ghost view = { λ small. small.prints.items };
+    ghost view = { λ small. record { globals = small.globals.items; code = small.code.items } };
 }
 
 impl Small {
-    /// The module that prints these values, each modulo 2^64, in this order.
-    pub fn new(prints: Vec<u64>) -> Self
-        ensures { result ≡ prints.items }
+    /// The module with these globals, whose `main` runs these instructions and returns.
+    ///
+    /// A global is the value that it begins with, modulo 2^64.
+    pub fn new(globals: Vec<u64>, code: Vec<SmallOp>) -> Self
+        ensures { result ≡ record { globals = globals.items; code = code.items } }
     {
-        Small { prints }
+        Small { globals, code }
     }
 
-    /// The values that the module prints, each modulo 2^64, in the order in which it prints them.
-    pub fn prints(&self) -> &[u64]
-        ensures { result.now ≡ self.now }
+    /// The values that the globals begin with, each modulo 2^64, in the order of the text.
+    pub fn globals(&self) -> &[u64]
+        ensures { result.now ≡ self.now.globals }
     {
-        self.prints.as_slice()
+        self.globals.as_slice()
+    }
+
+    /// The instructions of `main` in order, without its return.
+    pub fn code(&self) -> &[SmallOp]
+        ensures { result.now ≡ self.now.code }
+    {
+        self.code.as_slice()
     }
 }
