@@ -2,13 +2,14 @@
 use Rattle.std.proofs.Common.{◌≡◌, ℕ, ◌<◌, ◌==◌, Bool, true, false, if◌then◌else◌, List, [], ◌∷◌, ◌++◌, length, slice_set, refl, sym, ap, ◌∙◌, subst, inl, inr, ◌⊎◌}
 use Rattle.std.proofs.lemmas.Bool.{cases_eq, eq-eqb, ne_eqb}
 use Rattle.std.proofs.lemmas.List.{get_or-set_same, get_or-set_other}
+use Rattle.ds_map.specs.Bounds.{Bounds}
+use Rattle.ds_map.specs.Words.{first_words}
 use Rattle.ds_step.specs.declared.WordOp.{WordOp}
 use Rattle.ds_step.specs.declared.Step.{Step}
 use Rattle.ds_step.specs.Word.{words_after, answer_on}
 use Rattle.ds_plain.specs.Behaviour.{Program}
-use Rattle.ds_plain.specs.Limits.{Limits}
 use Rattle.ds_plain.specs.Plain.{replaced}
-use Rattle.ds_plain.specs.Table.{first_words, step_at, is_over}
+use Rattle.ds_plain.specs.Table.{step_at, is_over}
 use Rattle.ds_plain.specs.Thread.{Thread, first_thread, Follows, thread_after, moved}
 use Rattle.ds_plain.specs.History.{History, steps_of, Answers, words_at_end}
 use Rattle.ds_plain.specs.Explained.{trace_of, Stands}
@@ -36,8 +37,8 @@ pub steps_of-push_other : (u t : ℕ) (h : History) (s : Step) → (u ≡ t → 
 steps_of-push_other u t [] s ne = rw (ne_eqb u t ne)
 steps_of-push_other u t (e ∷ h) s ne = ap (λ w. if u == e.0 then e.1 ∷ w else w) (steps_of-push_other u t h s ne)
 
-module _ (lim : Limits) (t : ℕ) where
-  pub follows_push : (a : Thread) (ss : List Step) (s : Step) → Follows lim t a ss → is_over (thread_after lim t a ss).position ≡ false → s ≡ step_at t (thread_after lim t a ss).position s.old → Follows lim t a (ss ++ s ∷ [])
+module _ (lim : Bounds) (t : ℕ) where
+  pub follows_push : (a : Thread) (ss : List Step) (s : Step) → Follows lim t a ss → is_over (thread_after lim t a ss).position ≡ false → s ≡ step_at lim t (thread_after lim t a ss).position s.old → Follows lim t a (ss ++ s ∷ [])
   follows_push a [] s follows over is = (over, is, tt)
   follows_push a (x ∷ ss) s follows over is = (follows.0, follows.1, follows_push (moved lim t a x.old) ss s follows.2 over is)
 
@@ -45,10 +46,10 @@ module _ (lim : Limits) (t : ℕ) where
   after_push a [] s = refl
   after_push a (x ∷ ss) s = after_push (moved lim t a x.old) ss s
 
-module _ (program : Program) (lim : Limits) (traces : List (List Step)) (h : History) (words : List ℕ) (threads : ℕ → Thread) (t : ℕ)
-    (within : t < length traces) (stands : Stands program lim traces h words threads) (over : is_over (threads t).position ≡ false) where
+module _ (program : Program) (lim : Bounds) (image : List ℕ) (traces : List (List Step)) (h : History) (words : List ℕ) (threads : ℕ → Thread) (t : ℕ)
+    (within : t < length traces) (stands : Stands program lim image traces h words threads) (over : is_over (threads t).position ≡ false) where
   abbrev step : Step
-  step = next_step words threads t
+  step = next_step lim words threads t
 
   abbrev traces' : List (List Step)
   traces' = slice_set traces t (trace_of traces t ++ step ∷ [])
@@ -78,11 +79,11 @@ module _ (program : Program) (lim : Limits) (traces : List (List Step)) (h : His
       subst (λ u. thread_after lim u (first_thread lim program u) (trace_of traces' u) ≡ replaced threads t (moved lim t (threads t) step.old) u) e this
   at_more u (inr ne) = ap (thread_after lim u (first_thread lim program u)) (trace_other u ne) ∙ (stands.at u ∙ sym (replaced_other threads t (moved lim t (threads t) step.old) u ne))
 
-  pub one_more : Stands program lim traces' (h ++ (t, step) ∷ []) (words_after words step.op) (replaced threads t (moved lim t (threads t) step.old))
+  pub one_more : Stands program lim image traces' (h ++ (t, step) ∷ []) (words_after words step.op) (replaced threads t (moved lim t (threads t) step.old))
   one_more = record {
     interleaves = λ u. interleaves_more u (cases_eq t u);
-    legal = answers_push (λ (e : ℕ × Step). e.1.op) (λ (e : ℕ × Step). e.1.old) first_words h (t, step) stands.legal (ap (λ w. answer_on w step.op) (sym stands.left));
-    left = words_push (λ (e : ℕ × Step). e.1.op) (λ (e : ℕ × Step). e.1.old) first_words h (t, step) ∙ ap (λ w. words_after w step.op) stands.left;
+    legal = answers_push (λ (e : ℕ × Step). e.1.op) (λ (e : ℕ × Step). e.1.old) (first_words lim image) h (t, step) stands.legal (ap (λ w. answer_on w step.op) (sym stands.left));
+    left = words_push (λ (e : ℕ × Step). e.1.op) (λ (e : ℕ × Step). e.1.old) (first_words lim image) h (t, step) ∙ ap (λ w. words_after w step.op) stands.left;
     follows = λ u. follows_more u (cases_eq t u);
     at = λ u. at_more u (cases_eq t u);
   }

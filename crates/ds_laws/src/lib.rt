@@ -4,7 +4,7 @@
 //! list of traces, whichever code made them.
 #![tactic(auto)]
 
-ghost use Rattle.ds_laws.specs.Laws.{NothingStands, OneStepMore, LegalRunsArePlain};
+ghost use Rattle.ds_laws.specs.Laws.{NothingStands, OneStepMore, StandingIsRecorded, LegalRunsArePlain};
 
 /// Before any step the empty history stands: it is legal and leaves the first words.
 pub fn nothing_stands()
@@ -14,6 +14,12 @@ pub fn nothing_stands()
 /// A history that stands still stands when a thread that is not over makes its next step behind it.
 pub fn one_step_more()
     ensures { OneStepMore }
+{}
+
+/// A history that stands when main has ended, with each thread's stop as it stands there, is a record whose
+/// order is legal.
+pub fn standing_is_recorded()
+    ensures { StandingIsRecorded }
 {}
 
 /// Where the traces follow the step table, every legal order of their steps is, without log steps, a

@@ -2,7 +2,7 @@
 use Rattle.std.specs.Prelude.{◌≡◌, ℕ, Bool, true, false, ◌==◌, if◌then◌else◌, List, [], ◌∷◌, map, slice_index_or}
 use Rattle.ds_step.specs.declared.WordOp.{WordOp}
 use Rattle.ds_step.specs.declared.Event.{Event}
-use Rattle.ds_step.specs.declared.Event.TheVariants.{Begin, Print, End, Log}
+use Rattle.ds_step.specs.declared.Event.TheVariants.{Log}
 use Rattle.ds_step.specs.declared.Step.{Step}
 use Rattle.ds_step.specs.Word.{words_after, answer_on}
 
@@ -42,10 +42,8 @@ abbrev pub words_left : List ℕ → History → List ℕ
 words_left words h = words_at_end (λ e. e.1.op) words h
 
 abbrev pub is_log : Event → Bool
-is_log Begin = false
-is_log (Print number value) = false
-is_log End = false
 is_log Log = true
+is_log event = false
 
 -- the events of a history without those of the machine's own records
 abbrev pub erase : History → List (ℕ × Event)

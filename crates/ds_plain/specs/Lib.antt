@@ -1,5 +1,4 @@
 pub mod Behaviour
-pub mod Limits
 pub mod Plain
 pub mod Table
 pub mod Thread

@@ -1,7 +1,9 @@
--- The plain machine: threads that print and end, with no shared table and no log.
-use Rattle.std.specs.Prelude.{◌≡◌, ℕ, Bool, true, false, ◌⊎◌, ◌==◌, if◌then◌else◌, List, [], ◌∷◌, ◌++◌, length, Option, None}
+-- The plain machine: threads that print, load, store and end, with no shared table and no log.
+use Rattle.std.specs.Prelude.{◌≡◌, ℕ, ◌-◌, Bool, true, ◌⊎◌, ◌==◌, if◌then◌else◌, List, [], ◌∷◌, ◌++◌, length, replicate, slice_index, slice_set}
+use Rattle.ds_map.specs.Bounds.{Bounds}
+use Rattle.ds_map.specs.Regions.{program_words}
 use Rattle.ds_step.specs.declared.Event.{Event}
-use Rattle.ds_step.specs.declared.Event.TheVariants.{Begin, Print, End, Log}
+use Rattle.ds_step.specs.declared.Event.TheVariants.{Begin, Print, End, Load, Store}
 use Rattle.ds_plain.specs.declared.Stop.{Stop}
 use Rattle.ds_plain.specs.declared.Stop.TheVariants.{Idle, Running, Fuel}
 use Rattle.ds_plain.specs.declared.Request.{Request}
@@ -25,13 +27,16 @@ pub record State : Type 0 where
   -- the thread number that is given out next
   pub given : ℕ
   pub phases : ℕ → Phase
+  -- what the program memory's words hold, by location
+  pub words : List ℕ
 
--- at the start thread 0 may begin to run main, and no other thread was given out
+-- thread 0 may begin to run main, and no other thread was given out
 abbrev pub first_phase : ℕ → Phase
 first_phase t = if t == 0 then Ready 0 0 else NotGiven
 
-abbrev pub first_state : State
-first_state = record { out = []; given = 1; phases = first_phase }
+-- at the start the globals hold their image, and every other word 0
+abbrev pub first_state : Bounds → List ℕ → State
+first_state lim image = record { out = []; given = 1; phases = first_phase; words = image ++ replicate (program_words lim - length image) 0 }
 
 -- f with the value x at t
 abbrev pub replaced : {A : Type 0} → (ℕ → A) → ℕ → A → ℕ → A
@@ -56,12 +61,14 @@ IsStopped (Ready function argument) = ⊥
 IsStopped (Going rest) = ⊥
 IsStopped (Stopped stop) = Unit {0}
 
--- whether thread t may make this event now; out_of_fuel says which threads end for want of fuel
+-- whether thread t may make this event now; out_of_fuel says which threads end for want of fuel; no other event comes
 abbrev pub Allowed : (ℕ → Bool) → State → ℕ → Event → Type 0
 Allowed out_of_fuel s t Begin = IsReady (s.phases t)
 Allowed out_of_fuel s t (Print number value) = AsksFor (s.phases t) (requests.Print value) × (number ≡ length s.out)
 Allowed out_of_fuel s t End = (¬ IsStopped (s.phases t)) × (((stop : Stop) × AsksFor (s.phases t) (requests.Finish stop)) ⊎ (out_of_fuel t ≡ true))
-Allowed out_of_fuel s t Log = ⊥
+Allowed out_of_fuel s t (Load loc value) = AsksFor (s.phases t) (requests.Load loc) × (value ≡ slice_index s.words loc)
+Allowed out_of_fuel s t (Store loc value) = AsksFor (s.phases t) (requests.Store loc value)
+Allowed out_of_fuel s t event = ⊥
 
 -- a ready thread begins; no other may
 abbrev pub begun : Program → ℕ → Phase → Phase
@@ -80,6 +87,8 @@ answered answer (Stopped stop) = Stopped stop
 -- the stop that a request names
 abbrev pub requested_stop : Asked → Stop
 requested_stop (Asks instructions (requests.Print value)) = Running
+requested_stop (Asks instructions (requests.Load loc)) = Running
+requested_stop (Asks instructions (requests.Store loc value)) = Running
 requested_stop (Asks instructions (requests.Finish stop)) = stop
 requested_stop Silent = Running
 
@@ -104,7 +113,10 @@ changed program out_of_fuel s t (Print number value) =
     record s { out = s.out ++ value ∷ []; phases = replaced s.phases t (answered 0 (s.phases t)) }
 changed program out_of_fuel s t End =
     record s { phases = replaced s.phases t (Stopped (if out_of_fuel t then Fuel else named_stop (s.phases t))) }
-changed program out_of_fuel s t Log = s
+changed program out_of_fuel s t (Load loc value) = record s { phases = replaced s.phases t (answered value (s.phases t)) }
+changed program out_of_fuel s t (Store loc value) =
+    record s { words = slice_set s.words loc value; phases = replaced s.phases t (answered 0 (s.phases t)) }
+changed program out_of_fuel s t event = s
 
 -- each event is allowed in the state that the events before it leave
 abbrev pub IsPlainRun : Program → (ℕ → Bool) → State → List (ℕ × Event) → Type 0

@@ -1,15 +1,40 @@
--- What a module of this stage means: main prints its values in order and returns.
-use Rattle.std.specs.Prelude.{ℕ, List, [], ◌∷◌, None}
-use Rattle.ds_plain.specs.declared.Stop.TheVariants.{Returned}
-use Rattle.ds_plain.specs.declared.Request.TheVariants.{Print, Finish}
+-- What a module of this stage means: main makes its loads, stores and prints one after another, and returns.
+use Rattle.std.specs.Prelude.{ℕ, List, length, Option, Some, None, slice_get, slice_index}
+use Rattle.ds_small.specs.declared.SmallAddress.TheVariants.{Global, Null}
+use Rattle.ds_small.specs.declared.SmallValue.{SmallValue}
+use Rattle.ds_small.specs.declared.SmallValue.TheVariants.{Number, Result}
+use Rattle.ds_small.specs.declared.SmallOp.{SmallOp}
+use Rattle.ds_small.specs.declared.SmallOp.TheVariants.{Load, Store, Print}
+use Rattle.ds_small.specs.Module.{Module}
+use Rattle.ds_plain.specs.declared.Stop.{Stop}
+use Rattle.ds_plain.specs.declared.Stop.TheVariants.{Returned, Trap}
+use Rattle.ds_plain.specs.declared.TrapKind.TheVariants.{BadAddress}
+use Rattle.ds_plain.specs.declared.Request.{Request}
+use Rattle.ds_plain.specs.declared.Request.TheVariants as requests
 use Rattle.ds_plain.specs.Behaviour.{Asked, Asks, Program}
 
--- What main asks after these answers: each call and the return is one instruction.
-abbrev pub asked_of : List ℕ → List ℕ → Asked
-asked_of [] answers = Asks 1 (Finish (Returned None))
-asked_of (value ∷ values) [] = Asks 1 (Print value)
-asked_of (value ∷ values) (answer ∷ answers) = asked_of values answers
+-- what a value is, once the instructions before it were given these answers
+abbrev pub value_of : List ℕ → SmallValue → ℕ
+value_of answers (Number n) = n
+value_of answers (Result k) = slice_index answers k
 
--- the program of a module that prints these values; only main is ever started
-abbrev pub program_of : List ℕ → Program
-program_of values thread function argument = asked_of values
+-- how main ends where its instruction i goes through the null pointer
+abbrev pub null_stop : ℕ → Stop
+null_stop i = Trap (record { place = record { function = 0; instruction = i }; kind = BadAddress 0 })
+
+-- what instruction i asks for, after the answers to the instructions before it: global n is location n, and behind the last instruction main returns
+abbrev pub request_at : ℕ → List ℕ → Option SmallOp → Request
+request_at i answers (Some (Load (Global n))) = requests.Load n
+request_at i answers (Some (Load Null)) = requests.Finish (null_stop i)
+request_at i answers (Some (Store value (Global n))) = requests.Store n (value_of answers value)
+request_at i answers (Some (Store value Null)) = requests.Finish (null_stop i)
+request_at i answers (Some (Print value)) = requests.Print (value_of answers value)
+request_at i answers None = requests.Finish (Returned None)
+
+-- What main asks after these answers: each instruction asks once, so the next one is that with the number of answers.
+abbrev pub asked_of : Module → List ℕ → Asked
+asked_of small answers = Asks 1 (request_at (length answers) answers (slice_get small.code (length answers)))
+
+-- the program of a module; only main is ever started
+abbrev pub program_of : Module → Program
+program_of small thread function argument = asked_of small
