@@ -1,3 +1,4 @@
 mod Steps_more
 mod Main_steps
 mod Recorded
+mod Instructions

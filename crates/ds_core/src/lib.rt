@@ -4,6 +4,7 @@
 mod lists;
 mod record;
 mod replay;
+mod small;
 mod table;
 #[cfg(test)]
 mod tests;

@@ -1,131 +1,152 @@
 //! Runs a module of this stage on the shared words.
 
-ghost use Rattle.std.specs.Prelude.{◌≡◌, ℕ, ◌<◌, ◌≤◌, false, [], ◌∷◌, ◌++◌, ◌+◌, length, replicate, vec_len, OnOk, IfOk, IsSomeAnd, Some, None};
+ghost use Rattle.std.specs.Prelude.{◌≡◌, ℕ, ◌+◌, ◌*◌, ◌<◌, ◌≤◌, false, [], ◌∷◌, ◌++◌, List, length, replicate, vec_len, slice_get, OnOk, IfOk, IsSomeAnd, Some, None, take};
 ghost use Rattle.ds_step.specs.Word.{answer_on};
-ghost use Rattle.ds_plain.specs.declared.Stop.TheVariants.{Idle, Returned};
+ghost use Rattle.ds_small.specs.Module.{IsWellFormed};
+ghost use Rattle.ds_map.specs.Bounds.{default_limits};
+ghost use Rattle.ds_map.specs.Words.{words};
+ghost use Rattle.ds_plain.specs.declared.Stop.{Stop};
+ghost use Rattle.ds_plain.specs.declared.Stop.TheVariants.{Idle};
+ghost use Rattle.ds_plain.specs.declared.Position.TheVariants.{StoreEnded};
 ghost use Rattle.ds_plain.specs.Behaviour.{Program};
-ghost use Rattle.ds_plain.specs.Limits.{Limits, default_limits};
-ghost use Rattle.ds_plain.specs.Plain.{replaced};
-ghost use Rattle.ds_plain.specs.Table.{first_words, op_at, is_over};
-ghost use Rattle.ds_plain.specs.Thread.{Thread, first_thread, moved};
-ghost use Rattle.ds_plain.specs.Explained.{IsRecord, IsLegalOrder};
+ghost use Rattle.ds_plain.specs.Table.{op_at, is_over};
+ghost use Rattle.ds_plain.specs.Thread.{first_thread};
+ghost use Rattle.ds_plain.specs.Explained.{IsRecord, IsLegalOrder, HasEnded};
 ghost use Rattle.ds_plain.specs.Small.{program_of};
-ghost use Rattle.ds_core.specs.Stands.{HasEndedAll};
+ghost use Rattle.ds_core.specs.Stands.{main_position, told_at, MainStands, HasEndedAll, IsOwnStop};
 
 use crate::lists::{Order, Stops, Traces};
 use crate::record::RunRecord;
-use crate::table::{answered, op_of, step_of, written};
+use crate::small::{position_at, told};
+use crate::table::{op_of, step_of};
 use ds_laws::{nothing_stands, one_step_more};
+use ds_map::Limits;
 use ds_plain::{Position, Stop};
 use ds_small::Small;
+use ds_step::{VecWords, Words};
 use std::alloc::{AllocError, Global};
 
 /// How many program threads there are.
 const THREADS: usize = 16;
 
-/// How many words a run of this stage uses.
-const WORDS: usize = 384;
-
 /// The shared words, and what was recorded of the steps on them so far.
 #[derive(Drop)]
 struct Replay {
-    words: Vec<u64>,
+    limits: Limits,
+    table: VecWords,
     traces: Traces,
     order: Order,
-    ghost whole: { vec_len words ≡ 384 },
+    ghost whole: { length table ≡ words limits },
     ghost threads: { length traces ≡ 16 },
 }
 
-/// The words at the start.
-#[tactic(auto, unfolding(ds_plain::specs::Table::first_words))]
-fn opening_words(alloc: Global) -> Result<Vec<u64>, AllocError>
-    ensures words { IfOk result (λ words. words.items ≡ first_words) }
-    ensures len { IfOk result (λ words. vec_len words ≡ 384) }
-{
-    let mut words = vec![in alloc; 0; WORDS]?;
-    words[1] = 1;
-    words[16] = 1;
-    Ok(words)
-}
-
 impl Replay {
-    ghost use Rattle.ds_core.specs.Stands.{StandsWith, StandsAfter};
+    ghost use Rattle.ds_map.specs.Words.{first_words};
+    ghost use Rattle.ds_core.specs.Stands.{IsWithin, StandsWith, StandsAfter};
 
-    /// Before the first step.
-    fn new(alloc: Global) -> Result<Replay, AllocError>
-        ensures words { IfOk result (λ replay. replay.words.items ≡ first_words) }
-        ensures stands { IfOk result (λ replay. (program : Program) (lim : Limits) →
-            StandsWith program lim replay.words.items replay.traces replay.order (first_thread lim program)) }
+    /// Before the first step, with the default limits and the globals' first values.
+    fn new(alloc: Global, image: &[u64]) -> Result<Replay, AllocError>
+        requires { length image.now ≤ 4096 }
+        ensures limits { IfOk result (λ replay. replay.limits ≡ default_limits) }
+        ensures table { IfOk result (λ replay. replay.table ≡ first_words default_limits image.now) }
+        ensures stands { IfOk result (λ replay. (program : Program) →
+            StandsWith program default_limits image.now replay.table replay.traces replay.order (first_thread default_limits program)) }
         ensures order { IfOk result (λ replay. replay.order ≡ []) }
     {
         nothing_stands();
+        let limits = Limits::default_limits();
         Ok(Replay {
-            words: opening_words(alloc)?,
+            limits,
+            table: VecWords::new(alloc, &limits, image)?,
             traces: Traces::of_threads(alloc, THREADS)?,
             order: Order::new(alloc),
         })
     }
 
-    /// Makes the step of a thread at its position, and records it.
-    fn turn(&mut self, thread: u8, position: Position) -> Result<(), AllocError>
+    /// Makes the step of a thread at its position, records it, and answers what its word answered.
+    fn turn(&mut self, thread: u8, position: Position) -> Result<u64, AllocError>
         requires thread { thread < 16 }
         requires goes_on { is_over position ≡ false }
-        ensures stands { OnOk result (StandsAfter thread position self.old.words.items self.new.words.items
+        requires location { IsWithin self.old.limits position }
+        ensures stands { OnOk result (StandsAfter self.old.limits thread position self.old.table self.new.table
             self.old.traces self.new.traces self.old.order self.new.order) }
         ensures order { OnOk result (self.new.order ≡ self.old.order ++ thread ∷ []) }
+        ensures answer { IfOk result (λ answer. answer ≡ answer_on self.old.table (op_at self.old.limits thread position)) }
+        ensures limits { self.new.limits ≡ self.old.limits }
     {
         one_step_more();
-        let op = op_of(thread, position);
-        let word = op.word as usize;
-        let old = self.words[word];
-        self.words[word] = written(op, old);
-        let step = step_of(thread, position, answered(op.kind, old));
-        self.traces.push(usize::from(thread), step)?;
+        let op = op_of(&self.limits, thread, position);
+        let old = self.table.apply(op);
+        self.traces
+            .push(usize::from(thread), step_of(op, thread, position, old))?;
         self.order.push(thread)?;
-        Ok(())
+        Ok(old)
     }
 }
 
-/// Makes every step of main: it begins, prints each value in order, and ends.
-fn run_main(alloc: Global, small: &Small) -> Result<Replay, AllocError>
-    requires { length small.now ≤ 199999 }
-    ensures { IfOk result (λ replay. HasEndedAll small.now replay.words.items replay.traces replay.order) }
+/// Makes main's instructions, one after another, up to the one at which it ends, and answers how it ends.
+fn run_code(replay: &mut Replay, small: &Small, answers: &mut Vec<u64>) -> Result<Stop, AllocError>
+    requires well_formed { IsWellFormed small.now }
+    requires limits { replay.old.limits ≡ default_limits }
+    requires none_yet { answers.old.items ≡ [] }
+    requires stands { MainStands small.now [] replay.old.table replay.old.traces replay.old.order }
+    requires order { replay.old.order ≡ replicate 1 0 }
+    ensures stands { OnOk result (MainStands small.now answers.new.items replay.new.table replay.new.traces replay.new.order) }
+    ensures order { OnOk result (replay.new.order ≡ replicate (length answers.new.items + 1) 0) }
+    ensures stop { IfOk result (λ stop. main_position small.now answers.new.items ≡ StoreEnded stop) }
+    ensures own { IfOk result IsOwnStop }
+    ensures limits { OnOk result (replay.new.limits ≡ default_limits) }
 {
-    let mut replay = Replay::new(alloc)?;
-    replay.turn(0, Position::LoadStart)?;
-    for value in small.prints() {
-        replay.turn(0, Position::DrawPrint { value: *value })?;
+    'instructions: while answers.len() < small.code().len() {
+        let position = position_at(small, answers.as_slice());
+        if let Position::StoreEnded { stop } = position {
+            return Ok(stop);
+        }
+        let old = replay.turn(0, position)?;
+        answers.push(told(position, old))?;
     }
-    let stop = Stop::Returned(None);
-    replay.turn(0, Position::StoreEnded { stop })?;
-    Ok(replay)
+    Ok(Stop::Returned(None))
 }
 
-/// How each thread stands once main has returned: the others were never started.
-fn stops_of(alloc: Global) -> Result<Stops, AllocError>
-    ensures { IfOk result (λ stops. stops ≡ Returned None ∷ replicate 15 Idle) }
+/// Makes every step of main: it begins, makes its instructions, and ends.
+fn run_main(alloc: Global, small: &Small) -> Result<(Replay, Stop), AllocError>
+    requires { IsWellFormed small.now }
+    ensures ended { IfOk result (λ run. HasEndedAll small.now run.1 run.0.table run.0.traces run.0.order) }
+    ensures own { IfOk result (λ run. IsOwnStop run.1) }
+{
+    let mut replay = Replay::new(alloc, small.globals())?;
+    replay.turn(0, Position::LoadStart)?;
+    let mut answers = Vec::new(alloc);
+    let stop = run_code(&mut replay, small, &mut answers)?;
+    replay.turn(0, Position::StoreEnded { stop })?;
+    Ok((replay, stop))
+}
+
+/// How each thread stands once main has ended with this stop: the others were never started.
+fn stops_by(alloc: Global, main: Stop) -> Result<Stops, AllocError>
+    ensures { IfOk result (λ stops. stops ≡ main ∷ replicate 15 Idle) }
 {
     let mut stops = vec![in alloc; Stop::Idle; THREADS]?;
-    stops[0] = Stop::Returned(None);
+    stops[0] = main;
     Ok(Stops::new(stops))
 }
 
-/// Runs a module of this stage: main's function begins, prints each value in order, and returns.
+/// Runs a module of this stage: main begins, makes its instructions one after another, and ends.
 ///
-/// The record has 16 stops, of which main's is a return without a value, 16 traces, of which all but
-/// main's are empty, and an order in which every step was answered what its word held. Main makes two
-/// steps more than it prints values, and no other thread makes one.
+/// The record has 16 stops, of which main's is its return or a trap, 16 traces, of which all but main's are
+/// empty, and an order in which every step was answered what its word held.
 pub fn replay_small(alloc: Global, small: &Small) -> Result<RunRecord, AllocError>
-    requires { length small.now ≤ 199999 }
+    requires { IsWellFormed small.now }
     ensures record { IfOk result (λ run. IsRecord (program_of small.now) default_limits run.stops run.traces) }
-    ensures order { IfOk result (λ run. IsSomeAnd run.order (IsLegalOrder run.traces)) }
-    ensures main_alone { IfOk result (λ run. run.order ≡ Some (replicate (length small.now + 2) 0)) }
-    ensures returned { IfOk result (λ run. run.stops ≡ Returned None ∷ replicate 15 Idle) }
+    ensures order { IfOk result (λ run. IsSomeAnd run.order (IsLegalOrder default_limits small.now.globals run.traces)) }
+    ensures main_alone { IfOk result (λ run. IsSomeAnd run.order (λ order. order ≡ replicate (length order) 0)) }
+    ensures stops { IfOk result (λ run. (stop : Stop) × IsOwnStop stop × (run.stops ≡ stop ∷ replicate 15 Idle)) }
 {
-    let replay = run_main(alloc, small)?;
-    let stops = stops_of(alloc)?;
+    let (replay, main) = run_main(alloc, small)?;
+    let stops = stops_by(alloc, main)?;
     let Replay {
-        words: _,
+        limits: _,
+        table: _,
         traces,
         order,
     } = replay;

@@ -1,0 +1,84 @@
+//! What the instructions of a module of this stage ask for.
+
+ghost use Rattle.std.specs.Prelude.{◌≡◌, ◌^◌, ◌<◌, false, length, Some};
+ghost use Rattle.ds_small.specs.Module.{IsWellFormed};
+ghost use Rattle.ds_map.specs.Bounds.{default_limits};
+ghost use Rattle.ds_plain.specs.Small.{value_of, null_stop, request_at};
+ghost use Rattle.ds_plain.specs.Table.{is_over, position_of};
+ghost use Rattle.ds_core.specs.Stands.{IsWithin, main_position, told_at};
+
+use ds_plain::{Place, Position, Stop, Trap, TrapKind};
+use ds_small::{Small, SmallAddress, SmallOp, SmallValue};
+
+/// What a value is, by the answers to the instructions before it.
+fn value_by(answers: &[u64], value: SmallValue) -> u64
+    ensures { result ≡ value_of answers.now value }
+{
+    match value {
+        SmallValue::Number(number) => number,
+        SmallValue::Result(instruction) => answers.get(instruction as usize).copied().unwrap_or(0),
+    }
+}
+
+/// The stop of main where this instruction goes through the null pointer.
+fn stop_at_null(instruction: u32) -> Stop
+    ensures { result ≡ null_stop instruction }
+{
+    Stop::Trap(Trap {
+        place: Place {
+            function: 0,
+            instruction,
+        },
+        kind: TrapKind::BadAddress { address: 0 },
+    })
+}
+
+/// Where main stands at an instruction, by the answers to those before it.
+fn position_by(op: SmallOp, answers: &[u64]) -> Position
+    requires { length answers.now < 2 ^ 32 }
+    ensures { result ≡ position_of (request_at (length answers.now) answers.now (Some op)) }
+{
+    let instruction = answers.len() as u32;
+    match op {
+        SmallOp::Load { at } => match at {
+            SmallAddress::Global(loc) => Position::LoadWord { loc },
+            SmallAddress::Null => Position::StoreEnded {
+                stop: stop_at_null(instruction),
+            },
+        },
+        SmallOp::Store { value, at } => match at {
+            SmallAddress::Global(loc) => Position::StoreWord {
+                loc,
+                value: value_by(answers, value),
+            },
+            SmallAddress::Null => Position::StoreEnded {
+                stop: stop_at_null(instruction),
+            },
+        },
+        SmallOp::Print { value } => Position::DrawPrint {
+            value: value_by(answers, value),
+        },
+    }
+}
+
+/// Where main stands at its next instruction, by the answers to those before it.
+pub fn position_at(small: &Small, answers: &[u64]) -> Position
+    requires well_formed { IsWellFormed small.now }
+    requires next { length answers.now < length small.now.code }
+    ensures position { result ≡ main_position small.now answers.now }
+    ensures within { IsWithin default_limits result }
+    ensures goes_on { is_over result ≡ false }
+{
+    let op = small.code()[answers.len()];
+    position_by(op, answers)
+}
+
+/// What an instruction is told of the step that it asked for.
+pub fn told(position: Position, old: u64) -> u64
+    ensures { result ≡ told_at position old }
+{
+    match position {
+        Position::LoadWord { loc: _ } => old,
+        _ => 0,
+    }
+}
