@@ -1,14 +1,14 @@
 //! The report of a run.
 
-ghost use Rattle.std.specs.Prelude.{◌≡◌, ◌++◌, length, slice_index, OnOk, IfOk};
+ghost use Rattle.std.specs.Prelude.{◌≡◌, ◌++◌, length, count_by, OnOk, IfOk};
 ghost use Rattle.std.specs.List.{flat_map};
 ghost use Rattle.ds_plain.specs.Explained.{HasEnded, stop_in};
-ghost use Rattle.ds_report.specs.Report.{print_line, stop_line, stop_lines, how_text, summary_line, IsReport};
+ghost use Rattle.ds_report.specs.Report.{print_line, trap_text, trap_line, stop_line, stop_lines, how_text, is_trap, summary_line, IsReport};
 
 use crate::prints::{Print, in_order};
-use crate::text::{push, push_number};
+use crate::text::{push, push_address, push_number};
 use ds_core::RunRecord;
-use ds_plain::Stop;
+use ds_plain::{Stop, Trap, TrapKind};
 use std::alloc::{AllocError, Global};
 
 /// Adds a line for each print: its value as a signed decimal number.
@@ -22,8 +22,44 @@ fn push_print_lines(text: &mut Vec<u8>, prints: &[Print]) -> Result<(), AllocErr
     Ok(())
 }
 
+/// Adds why an instruction could not be carried out.
+fn push_trap(alloc: Global, text: &mut Vec<u8>, kind: TrapKind) -> Result<(), AllocError>
+    ensures { OnOk result (text.new.items ≡ text.old.items ++ trap_text kind) }
+{
+    match kind {
+        TrapKind::BadAddress { address } => {
+            push(text, b"bad address ")?;
+            push_address(alloc, text, address)
+        }
+    }
+}
+
+/// Adds the line of a thread that trapped.
+fn push_trap_line(
+    alloc: Global,
+    text: &mut Vec<u8>,
+    thread: usize,
+    trap: Trap,
+) -> Result<(), AllocError>
+    ensures { OnOk result (text.new.items ≡ text.old.items ++ trap_line thread trap) }
+{
+    push(text, b"trap thread ")?;
+    push_number(text, thread)?;
+    push(text, b" in @main instruction ")?;
+    push_number(text, trap.place.instruction)?;
+    push(text, b": ")?;
+    push_trap(alloc, text, trap.kind)?;
+    push(text, b"\n")?;
+    Ok(())
+}
+
 /// Adds the line of a thread that did not come to the end of its function.
-fn push_stop_line(text: &mut Vec<u8>, thread: usize, stop: Stop) -> Result<(), AllocError>
+fn push_stop_line(
+    alloc: Global,
+    text: &mut Vec<u8>,
+    thread: usize,
+    stop: Stop,
+) -> Result<(), AllocError>
     ensures { OnOk result (text.new.items ≡ text.old.items ++ stop_line thread stop) }
 {
     match stop {
@@ -34,15 +70,16 @@ fn push_stop_line(text: &mut Vec<u8>, thread: usize, stop: Stop) -> Result<(), A
             push(text, b"\n")?;
             Ok(())
         }
+        Stop::Trap(trap) => push_trap_line(alloc, text, thread, trap),
     }
 }
 
 /// Adds the stop lines of all threads, in number order.
-fn push_stop_lines(text: &mut Vec<u8>, stops: &[Stop]) -> Result<(), AllocError>
+fn push_stop_lines(alloc: Global, text: &mut Vec<u8>, stops: &[Stop]) -> Result<(), AllocError>
     ensures { OnOk result (text.new.items ≡ text.old.items ++ stop_lines 0 stops.now) }
 {
     for (thread, stop) in stops.iter().enumerate() {
-        push_stop_line(text, thread, *stop)?;
+        push_stop_line(alloc, text, thread, *stop)?;
     }
     Ok(())
 }
@@ -59,18 +96,41 @@ fn push_how(text: &mut Vec<u8>, stop: Stop) -> Result<(), AllocError>
             push_number(text, value.cast_signed())
         }
         Stop::Fuel => push(text, b"out of fuel"),
+        Stop::Trap(_) => push(text, b"trapped"),
     }
 }
 
+/// How many threads trapped.
+fn trap_count(stops: &[Stop]) -> usize
+    ensures { result ≡ count_by is_trap stops.now }
+{
+    stops.iter().filter(|stop| is_trap(**stop)).count()
+}
+
+/// Whether a stop is a trap.
+fn is_trap(stop: Stop) -> bool
+    ensures { result ≡ is_trap stop }
+{
+    matches!(stop, Stop::Trap(_))
+}
+
 /// Adds the last line: how main ended, and the counts.
-fn push_summary(text: &mut Vec<u8>, main: Stop, prints: usize) -> Result<(), AllocError>
-    ensures { OnOk result (text.new.items ≡ text.old.items ++ summary_line main prints) }
+fn push_summary(
+    text: &mut Vec<u8>,
+    main: Stop,
+    prints: usize,
+    traps: usize,
+) -> Result<(), AllocError>
+    ensures { OnOk result (text.new.items ≡ text.old.items ++ summary_line main prints traps) }
 {
     push(text, b"main ")?;
     push_how(text, main)?;
     push(text, b"; prints ")?;
     push_number(text, prints)?;
-    push(text, b" mallocs 0 frees 0 notes 0 marks 0 traps 0\n")
+    push(text, b" mallocs 0 frees 0 notes 0 marks 0 traps ")?;
+    push_number(text, traps)?;
+    push(text, b"\n")?;
+    Ok(())
 }
 
 /// The report of a run in which main has ended: what was printed, in order; a line for each thread that
@@ -84,7 +144,7 @@ pub fn render(alloc: Global, run: &RunRecord) -> Result<Vec<u8>, AllocError>
     let stops = run.stops.as_slice();
     let mut text = Vec::new(alloc);
     push_print_lines(&mut text, prints.as_slice())?;
-    push_stop_lines(&mut text, stops)?;
-    push_summary(&mut text, stops[0], prints.len())?;
+    push_stop_lines(alloc, &mut text, stops)?;
+    push_summary(&mut text, stops[0], prints.len(), trap_count(stops))?;
     Ok(text)
 }

@@ -1,14 +1,46 @@
 use crate::{Fault, fault_line, render};
 use ds_core::replay_small;
-use ds_small::Small;
+use ds_small::{Small, SmallAddress, SmallOp, SmallValue};
 use std::test::Fail;
 
 #[test]
-fn reports_the_prints_in_order(rt: HostRuntime) -> Result<(), Fail> {
-    let small = Small::new(vec![in rt.alloc(); 0, 0xffff_ffff_ffff_ffff]?);
+fn reports_what_is_loaded_and_printed(rt: HostRuntime) -> Result<(), Fail> {
+    let at = SmallAddress::Global(0);
+    let code = vec![in rt.alloc();
+        SmallOp::Load { at },
+        SmallOp::Store {
+            value: SmallValue::Number(0xffff_ffff_ffff_ffff),
+            at
+        },
+        SmallOp::Load { at },
+        SmallOp::Print {
+            value: SmallValue::Result(0)
+        },
+        SmallOp::Print {
+            value: SmallValue::Result(2)
+        },
+    ]?;
+    let small = Small::new(vec![in rt.alloc(); 5]?, code);
     let run = replay_small(rt.alloc(), &small)?;
     let text = render(rt.alloc(), &run)?;
-    let want: &[u8] = b"0\n-1\nmain returned; prints 2 mallocs 0 frees 0 notes 0 marks 0 traps 0\n";
+    let want: &[u8] = b"5\n-1\nmain returned; prints 2 mallocs 0 frees 0 notes 0 marks 0 traps 0\n";
+    assert_eq!(rt; text.as_slice(), want);
+    Ok(())
+}
+
+#[test]
+fn reports_a_store_through_null(rt: HostRuntime) -> Result<(), Fail> {
+    let code = vec![in rt.alloc();
+        SmallOp::Store {
+            value: SmallValue::Number(1),
+            at: SmallAddress::Null
+        },
+    ]?;
+    let small = Small::new(Vec::new(rt.alloc()), code);
+    let run = replay_small(rt.alloc(), &small)?;
+    let text = render(rt.alloc(), &run)?;
+    let want: &[u8] = b"trap thread 0 in @main instruction 0: bad address 0x0\n\
+        main trapped; prints 0 mallocs 0 frees 0 notes 0 marks 0 traps 1\n";
     assert_eq!(rt; text.as_slice(), want);
     Ok(())
 }
