@@ -1,5 +1,5 @@
 -- What the ending of a call says, clause by clause.
-use Rattle.std.proofs.Common.{◌≡◌, ℕ, ◌⊎◌, inl, inr, List, [], length, Option, Some, refl, sym, subst, ◌∙◌, arith}
+use Rattle.std.proofs.Common.{◌≡◌, ℕ, Bool, true, false, if◌then◌else◌, ◌⊎◌, inl, inr, List, [], length, Option, Some, refl, sym, subst, ◌∙◌, arith}
 use Rattle.std.specs.Option.{option_map}
 use Rattle.ds_io.specs.Counts.{Rose}
 use Rattle.ds_io.specs.Sink.{Takes, TakesFront}
@@ -9,8 +9,10 @@ use Rattle.ds_report.specs.Fault.{fault_text}
 use Rattle.ds_report.specs.Report.{IsReport}
 use Rattle.ds_main.specs.Job.{HasJob, NoJob}
 use Rattle.ds_main.specs.Input.{IsRefused, IsAccepted, Spells, Held}
-use Rattle.ds_main.specs.Run.{IsEmpty, IsRunOfInput}
-use Rattle.ds_main.specs.Ending.{Call, Refused, Ends, status_of, IsDue, IsDueText, IsCutShort, IsFaultStatus, IsStatus}
+use Rattle.std.specs.List.{list_any}
+use Rattle.ds_report.specs.Report.{is_trap}
+use Rattle.ds_main.specs.Run.{IsEmpty, IsRunOfInput, run_status, IsRunStatus}
+use Rattle.ds_main.specs.Ending.{Call, Refused, Ends, status_of, IsDue, IsDueText, IsCutShort, IsFaultStatus, IsStatus, Reported}
 use Rattle.ds_main.proofs.Endings.{by_ending}
 
 -- a status that is two numbers
@@ -32,17 +34,34 @@ not_fault status (inl a) = ((λ e. absurd (omega arith)), (λ e. absurd (omega a
 not_fault status (inr (inl a)) = ((λ e. absurd (omega arith)), (λ e. absurd (omega arith)), (λ e. absurd (omega arith)))
 not_fault status (inr (inr a)) = ((λ e. absurd (omega arith)), (λ e. absurd (omega arith)), (λ e. absurd (omega arith)))
 
+not_run : (status : ℕ) → IsRunStatus status → (status ≡ 5 → ⊥) × (status ≡ 6 → ⊥)
+not_run status (inl a) = ((λ e. absurd (omega arith)), (λ e. absurd (omega arith)))
+not_run status (inr a) = ((λ e. absurd (omega arith)), (λ e. absurd (omega arith)))
+
+run_or_fault : (status : ℕ) → IsRunStatus status → IsFaultStatus status → ⊥
+run_or_fault status run (inl a) = elim run [ inl b ↦ absurd (omega arith) | inr b ↦ absurd (omega arith) ]
+run_or_fault status run (inr (inl a)) = elim run [ inl b ↦ absurd (omega arith) | inr b ↦ absurd (omega arith) ]
+run_or_fault status run (inr (inr a)) = elim run [ inl b ↦ absurd (omega arith) | inr b ↦ absurd (omega arith) ]
+
+-- the status of a run is one of these
+status_of_if : (b : Bool) → IsRunStatus (if b then 3 else 0)
+status_of_if true = inr refl
+status_of_if false = inl refl
+
+of_reported : (call : Call) → Reported call → IsRunStatus call.status
+of_reported call x = subst IsRunStatus (sym x.status) (status_of_if (list_any is_trap call.run.stops))
+
 of_refused : (call : Call) → Refused call → IsFaultStatus call.status
 of_refused call x = subst IsFaultStatus (sym x.status) (fault_status x.fault)
 
-pub ran : (call : Call) → Ends call → call.status ≡ 0 → HasJob call.words × IsRunOfInput call.left call.run
-ran call ends zero = by_ending call _ (λ x. absurd ((not_fault call.status (of_refused call x)).0 zero)) (λ x. absurd (omega arith)) (λ x. (x.ran.job, x.ran.run)) (λ x. absurd (omega arith)) (λ x. absurd (omega arith)) ends
+pub ran : (call : Call) → Ends call → IsRunStatus call.status → HasJob call.words × IsRunOfInput call.left call.run
+ran call ends is = by_ending call _ (λ x. absurd (run_or_fault call.status is (of_refused call x))) (λ x. absurd ((not_run call.status is).0 x.status)) (λ x. (x.ran.job, x.ran.run)) (λ x. absurd ((not_run call.status is).0 x.status)) (λ x. absurd ((not_run call.status is).1 x.status)) ends
 
-pub reported : (call : Call) → Ends call → call.status ≡ 0 → (text : List ℕ) × IsReport call.run.stops call.run.traces text × Takes call.taken text call.taken_after
-reported call ends zero = by_ending call _ (λ x. absurd ((not_fault call.status (of_refused call x)).0 zero)) (λ x. absurd (omega arith)) (λ x. (x.text, x.ran.report, x.written)) (λ x. absurd (omega arith)) (λ x. absurd (omega arith)) ends
+pub reported : (call : Call) → Ends call → IsRunStatus call.status → (text : List ℕ) × IsReport call.run.stops call.run.traces text × Takes call.taken text call.taken_after
+reported call ends is = by_ending call _ (λ x. absurd (run_or_fault call.status is (of_refused call x))) (λ x. absurd ((not_run call.status is).0 x.status)) (λ x. (x.text, x.ran.report, x.written)) (λ x. absurd ((not_run call.status is).0 x.status)) (λ x. absurd ((not_run call.status is).1 x.status)) ends
 
-pub read_out : (call : Call) → Ends call → call.status ≡ 0 → call.left_after ≡ option_map (λ _. []) call.left
-read_out call ends zero = by_ending call _ (λ x. absurd ((not_fault call.status (of_refused call x)).0 zero)) (λ x. absurd (omega arith)) (λ x. x.ran.read) (λ x. absurd (omega arith)) (λ x. absurd (omega arith)) ends
+pub read_out : (call : Call) → Ends call → IsRunStatus call.status → call.left_after ≡ option_map (λ _. []) call.left
+read_out call ends is = by_ending call _ (λ x. absurd (run_or_fault call.status is (of_refused call x))) (λ x. absurd ((not_run call.status is).0 x.status)) (λ x. x.ran.read) (λ x. absurd ((not_run call.status is).0 x.status)) (λ x. absurd ((not_run call.status is).1 x.status)) ends
 
 -- which fault a status tells
 due_at_2 : (words : List (List ℕ)) (left : Option (List ℕ)) (rose : Type 0) (fault : Fault) → status_of fault ≡ 2 → IsDue words left rose fault → NoJob words
@@ -64,13 +83,13 @@ due_at_1 words left rose TooLong e due = (due.0, λ bytes held. inl (due.1 bytes
 due_at_1 words left rose OtherForm e due = (due.0, λ bytes held. inr (due.1 bytes held))
 
 pub usage : (call : Call) → Ends call → call.status ≡ 2 → NoJob call.words
-usage call ends two = by_ending call _ (λ x. due_at_2 call.words call.left (Rose call.reads call.reads_after) x.fault (sym x.status ∙ two) x.due) (λ x. absurd (omega arith)) (λ x. absurd (omega arith)) (λ x. absurd (omega arith)) (λ x. absurd (omega arith)) ends
+usage call ends two = by_ending call _ (λ x. due_at_2 call.words call.left (Rose call.reads call.reads_after) x.fault (sym x.status ∙ two) x.due) (λ x. absurd (omega arith)) (λ x. absurd (run_or_fault call.status (of_reported call x) (inr (inl two)))) (λ x. absurd (omega arith)) (λ x. absurd (omega arith)) ends
 
 pub read_failed : (call : Call) → Ends call → call.status ≡ 4 → HasJob call.words × Rose call.reads call.reads_after
-read_failed call ends four = by_ending call _ (λ x. due_at_4 call.words call.left (Rose call.reads call.reads_after) x.fault (sym x.status ∙ four) x.due) (λ x. absurd (omega arith)) (λ x. absurd (omega arith)) (λ x. absurd (omega arith)) (λ x. absurd (omega arith)) ends
+read_failed call ends four = by_ending call _ (λ x. due_at_4 call.words call.left (Rose call.reads call.reads_after) x.fault (sym x.status ∙ four) x.due) (λ x. absurd (omega arith)) (λ x. absurd (run_or_fault call.status (of_reported call x) (inr (inr four)))) (λ x. absurd (omega arith)) (λ x. absurd (omega arith)) ends
 
 pub refused : (call : Call) → Ends call → call.status ≡ 1 → HasJob call.words × Held call.left IsRefused
-refused call ends one = by_ending call _ (λ x. due_at_1 call.words call.left (Rose call.reads call.reads_after) x.fault (sym x.status ∙ one) x.due) (λ x. absurd (omega arith)) (λ x. absurd (omega arith)) (λ x. absurd (omega arith)) (λ x. absurd (omega arith)) ends
+refused call ends one = by_ending call _ (λ x. due_at_1 call.words call.left (Rose call.reads call.reads_after) x.fault (sym x.status ∙ one) x.due) (λ x. absurd (omega arith)) (λ x. absurd (run_or_fault call.status (of_reported call x) (inl one))) (λ x. absurd (omega arith)) (λ x. absurd (omega arith)) ends
 
 -- where no job has the words, the fault is that
 due_without_job : (words : List (List ℕ)) (left : Option (List ℕ)) (rose : Type 0) (fault : Fault) → NoJob words → IsDue words left rose fault → status_of fault ≡ 2
@@ -107,20 +126,20 @@ refusal_is_told call ends job bytes held bad =
     (λ x. absurd (accepted_or_refused bytes (run_is_accepted call.left call bytes held x.ran.run) bad)) (λ x. inr (inr (inl x.status))) (λ x. inr (inr (inr x.status))) ends
 
 pub fault_line : (call : Call) → Ends call → IsFaultStatus call.status → (fault : Fault) × (call.status ≡ status_of fault) × IsDue call.words call.left (Rose call.reads call.reads_after) fault × Takes call.taken (fault_text fault) call.taken_after
-fault_line call ends is = by_ending call _ (λ x. (x.fault, x.status, x.due, x.written)) (λ x. absurd ((not_fault call.status is).1 x.status)) (λ x. absurd ((not_fault call.status is).0 x.status)) (λ x. absurd ((not_fault call.status is).1 x.status)) (λ x. absurd ((not_fault call.status is).2 x.status)) ends
+fault_line call ends is = by_ending call _ (λ x. (x.fault, x.status, x.due, x.written)) (λ x. absurd ((not_fault call.status is).1 x.status)) (λ x. absurd (run_or_fault call.status (of_reported call x) is)) (λ x. absurd ((not_fault call.status is).1 x.status)) (λ x. absurd ((not_fault call.status is).2 x.status)) ends
 
 pub nothing_run : (call : Call) → Ends call → IsFaultStatus call.status → IsEmpty call.run
-nothing_run call ends is = by_ending call _ (λ x. x.empty) (λ x. x.empty) (λ x. absurd ((not_fault call.status is).0 x.status)) (λ x. absurd ((not_fault call.status is).1 x.status)) (λ x. absurd ((not_fault call.status is).2 x.status)) ends
+nothing_run call ends is = by_ending call _ (λ x. x.empty) (λ x. x.empty) (λ x. absurd (run_or_fault call.status (of_reported call x) is)) (λ x. absurd ((not_fault call.status is).1 x.status)) (λ x. absurd ((not_fault call.status is).2 x.status)) ends
 
 pub write_failed : (call : Call) → Ends call → call.status ≡ 5 → Rose call.writes call.writes_after × (text : List ℕ) × IsDueText call.words call.left (Rose call.reads call.reads_after) call.run text × TakesFront call.taken text call.taken_after
-write_failed call ends five = by_ending call _ (λ x. absurd ((not_fault call.status (of_refused call x)).1 five)) (λ x. (x.rose, fault_text x.fault, inl (x.fault, x.due, x.empty, refl), x.written)) (λ x. absurd (omega arith))
+write_failed call ends five = by_ending call _ (λ x. absurd ((not_fault call.status (of_refused call x)).1 five)) (λ x. (x.rose, fault_text x.fault, inl (x.fault, x.due, x.empty, refl), x.written)) (λ x. absurd ((not_run call.status (of_reported call x)).0 five))
     (λ x. (x.rose, x.text, inr (x.ran.job, x.ran.run, x.ran.report), x.written)) (λ x. absurd (omega arith)) ends
 
 pub out_of_memory : (call : Call) → Ends call → call.status ≡ 6 → call.taken_after ≡ call.taken
-out_of_memory call ends six = by_ending call _ (λ x. absurd ((not_fault call.status (of_refused call x)).2 six)) (λ x. absurd (omega arith)) (λ x. absurd (omega arith)) (λ x. absurd (omega arith)) (λ x. x.nothing) ends
+out_of_memory call ends six = by_ending call _ (λ x. absurd ((not_fault call.status (of_refused call x)).2 six)) (λ x. absurd (omega arith)) (λ x. absurd ((not_run call.status (of_reported call x)).1 six)) (λ x. absurd (omega arith)) (λ x. x.nothing) ends
 
 pub statuses : (call : Call) → Ends call → IsStatus call.status
-statuses call ends = by_ending call _ (λ x. inr (inl (of_refused call x))) (λ x. inr (inr (inl x.status))) (λ x. inl x.status) (λ x. inr (inr (inl x.status))) (λ x. inr (inr (inr x.status))) ends
+statuses call ends = by_ending call _ (λ x. inr (inl (of_refused call x))) (λ x. inr (inr (inl x.status))) (λ x. inl (of_reported call x)) (λ x. inr (inr (inl x.status))) (λ x. inr (inr (inr x.status))) ends
 
 -- an accepted input whose source did not fail has no fault
 no_fault : (words : List (List ℕ)) (left : Option (List ℕ)) (rose : Type 0) (fault : Fault) (bytes : List ℕ) → HasJob words → left ≡ Some bytes → IsAccepted bytes → ¬ rose → IsDue words left rose fault → ⊥
@@ -139,8 +158,12 @@ run_is_made call ends job bytes held accepted calm empty = by_ending call _
     (λ x. absurd (no_fault call.words call.left (Rose call.reads call.reads_after) x.fault bytes job held accepted calm x.due))
     (λ x. absurd (empty_or_run call call.left empty x.ran.run)) (λ x. absurd (empty_or_run call call.left empty x.ran.run)) (λ x. x.status) ends
 
-pub complete : (call : Call) → Ends call → HasJob call.words → Held call.left (λ bytes. IsAccepted bytes → ¬ Rose call.reads call.reads_after → ¬ Rose call.writes call.writes_after → (call.status ≡ 0) ⊎ (call.status ≡ 6))
+pub complete : (call : Call) → Ends call → HasJob call.words → Held call.left (λ bytes. IsAccepted bytes → ¬ Rose call.reads call.reads_after → ¬ Rose call.writes call.writes_after → IsRunStatus call.status ⊎ (call.status ≡ 6))
 complete call ends job bytes held accepted calm quiet = by_ending call _
     (λ x. absurd (no_fault call.words call.left (Rose call.reads call.reads_after) x.fault bytes job held accepted calm x.due))
     (λ x. absurd (no_fault call.words call.left (Rose call.reads call.reads_after) x.fault bytes job held accepted calm x.due))
-    (λ x. inl x.status) (λ x. absurd (quiet x.rose)) (λ x. inr x.status) ends
+    (λ x. inl (of_reported call x)) (λ x. absurd (quiet x.rose)) (λ x. inr x.status) ends
+
+pub run_status_is : (call : Call) → Ends call → IsRunStatus call.status → call.status ≡ run_status call.run.stops
+run_status_is call ends is = by_ending call _ (λ x. absurd (run_or_fault call.status is (of_refused call x))) (λ x. absurd ((not_run call.status is).0 x.status)) (λ x. x.status)
+    (λ x. absurd ((not_run call.status is).0 x.status)) (λ x. absurd ((not_run call.status is).1 x.status)) ends

@@ -1,6 +1,7 @@
 -- How a call ends, and what that says of its status, its record and what the sink took.
 use Rattle.std.proofs.Common.{◌≡◌, ℕ, ◌⊎◌, inl, inr, List, [], Option, Some, None, sym}
 use Rattle.std.specs.Option.{option_map}
+use Rattle.ds_small.specs.Module.{Module}
 use Rattle.ds_io.specs.Counts.{Rose}
 use Rattle.ds_io.specs.Source.{GivesAll}
 use Rattle.ds_report.specs.declared.fault.Fault.{Fault}
@@ -51,11 +52,11 @@ read_out : (left left_after : Option (List ℕ)) (bytes : List ℕ) → GivesAll
 read_out None left_after bytes all = all
 read_out (Some whole) left_after bytes all = all.1
 
-run_of_input : (call : Call) (small : List ℕ) → IsInputOf call.left call.left_after small → IsRunOfModule small call.run → IsRunOfInput call.left call.run
+run_of_input : (call : Call) (small : Module) → IsInputOf call.left call.left_after small → IsRunOfModule small call.run → IsRunOfInput call.left call.run
 run_of_input call small input run =
     record { bytes = input.0; small = small; held = λ bytes held. sym (held_bytes call.left call.left_after input.0 bytes input.1 held); spelled = input.2; run_of = run }
 
-run_ends : (call : Call) (small : List ℕ) → HasJob call.words → IsInputOf call.left call.left_after small
+run_ends : (call : Call) (small : Module) → HasJob call.words → IsInputOf call.left call.left_after small
     → RunEnds small call.taken call.taken_after call.writes call.writes_after call.status call.run → Ends call
 run_ends call small job input (inl x) = out_of_memory call x.0 (inl x.1)
 run_ends call small job input (inr x) =

@@ -1,6 +1,7 @@
 -- How a call may end.
 use Rattle.std.specs.Prelude.{◌≡◌, ℕ, ◌⊎◌, List, [], Option}
 use Rattle.std.specs.Option.{option_map}
+use Rattle.ds_small.specs.Module.{Module}
 use Rattle.ds_io.specs.Counts.{Rose}
 use Rattle.ds_io.specs.Source.{GivesAll}
 use Rattle.ds_io.specs.Sink.{Takes, TakesFront}
@@ -11,7 +12,7 @@ use Rattle.ds_report.specs.Fault.{fault_text}
 use Rattle.ds_report.specs.Report.{IsReport}
 use Rattle.ds_main.specs.Job.{HasJob, NoJob}
 use Rattle.ds_main.specs.Input.{Held, Spells, IsTooLong, IsOtherForm}
-use Rattle.ds_main.specs.Run.{IsEmpty, IsRunOfModule, IsRunOfInput}
+use Rattle.ds_main.specs.Run.{IsEmpty, IsRunOfModule, IsRunOfInput, run_status, IsRunStatus}
 
 -- the status of a fault
 abbrev pub status_of : Fault → ℕ
@@ -84,7 +85,7 @@ pub record HasRun (call : Call) (text : List ℕ) : Type 0 where
 pub record Reported (call : Call) : Type 0 where
   pub text : List ℕ
   pub ran : HasRun call text
-  pub status : call.status ≡ 0
+  pub status : call.status ≡ run_status call.run.stops
   pub written : Takes call.taken text call.taken_after
 
 -- the module was run, and the sink failed as its report was written
@@ -114,7 +115,7 @@ abbrev pub IsFaultStatus : ℕ → Type 0
 IsFaultStatus status = (status ≡ 1) ⊎ (status ≡ 2) ⊎ (status ≡ 4)
 
 abbrev pub IsStatus : ℕ → Type 0
-IsStatus status = (status ≡ 0) ⊎ IsFaultStatus status ⊎ IsCutShort status
+IsStatus status = IsRunStatus status ⊎ IsFaultStatus status ⊎ IsCutShort status
 
 -- this text was due: the line of the fault that ended the call, where nothing was run, or the report of the run
 abbrev pub IsDueText : List (List ℕ) → Option (List ℕ) → (read_rose : Type 0) → RunRecord → List ℕ → Type 0
@@ -131,20 +132,20 @@ Delivers text done taken taken_after writes writes_after status =
 abbrev pub Unwritten : Option (List ℕ) → Option (List ℕ) → ℕ → Type 0
 Unwritten taken taken_after status = (status ≡ 6) × (taken_after ≡ taken)
 
--- the source was read to its end, and what it held spells the module that prints these values
-abbrev pub IsInputOf : Option (List ℕ) → Option (List ℕ) → List ℕ → Type 0
+-- the source was read to its end, and what it held spells this module
+abbrev pub IsInputOf : Option (List ℕ) → Option (List ℕ) → Module → Type 0
 IsInputOf left left_after small = (bytes : List ℕ) × GivesAll left bytes left_after × Spells bytes small
 
--- how a run of the module that prints these values ends: memory ran out before it, behind it, or its report was delivered
-abbrev pub RunEnds : List ℕ → Option (List ℕ) → Option (List ℕ) → ℕ → ℕ → ℕ → RunRecord → Type 0
+-- how a run of the module ends: memory ran out before it, behind it, or its report was delivered
+abbrev pub RunEnds : Module → Option (List ℕ) → Option (List ℕ) → ℕ → ℕ → ℕ → RunRecord → Type 0
 RunEnds small taken taken_after writes writes_after status run =
     (Unwritten taken taken_after status × IsEmpty run)
     ⊎ (IsRunOfModule small run × (Unwritten taken taken_after status
-    ⊎ ((text : List ℕ) × IsReport run.stops run.traces text × Delivers text 0 taken taken_after writes writes_after status)))
+    ⊎ ((text : List ℕ) × IsReport run.stops run.traces text × Delivers text (run_status run.stops) taken taken_after writes writes_after status)))
 
 -- how the job `replay` ends, by what it was given and what it left
 abbrev pub ReplayEnds : Option (List ℕ) → Option (List ℕ) → ℕ → ℕ → Option (List ℕ) → Option (List ℕ) → ℕ → ℕ → ℕ → RunRecord → Type 0
 ReplayEnds left left_after reads reads_after taken taken_after writes writes_after status run =
     ((fault : Fault) × IsInputFault left (Rose reads reads_after) fault × IsEmpty run × (Delivers (fault_text fault) (status_of fault) taken taken_after writes writes_after status ⊎ Unwritten taken taken_after status))
     ⊎ (Unwritten taken taken_after status × IsEmpty run)
-    ⊎ ((small : List ℕ) × IsInputOf left left_after small × RunEnds small taken taken_after writes writes_after status run)
+    ⊎ ((small : Module) × IsInputOf left left_after small × RunEnds small taken taken_after writes writes_after status run)

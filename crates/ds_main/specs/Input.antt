@@ -1,5 +1,6 @@
 -- What the bytes of an input are.
 use Rattle.std.specs.Prelude.{◌≡◌, ℕ, ◌<◌, ◌≤◌, ◌⊎◌, List, length, Option, Some}
+use Rattle.ds_small.specs.Module.{Module}
 use Rattle.ds_parse.specs.Form.{Text}
 
 -- the most bytes that an input may have
@@ -9,17 +10,17 @@ longest_input = 8388608
 abbrev pub IsTooLong : List ℕ → Type 0
 IsTooLong bytes = longest_input < length bytes
 
--- the bytes spell a module that prints these values
-abbrev pub Spells : List ℕ → List ℕ → Type 0
+-- the bytes spell this module
+abbrev pub Spells : List ℕ → Module → Type 0
 Spells bytes small = (length bytes ≤ longest_input) × Text bytes small
 
 -- the input is accepted: it spells a module
 abbrev pub IsAccepted : List ℕ → Type 0
-IsAccepted bytes = (small : List ℕ) × Spells bytes small
+IsAccepted bytes = (small : Module) × Spells bytes small
 
 -- the input is not too long, and spells no module
 abbrev pub IsOtherForm : List ℕ → Type 0
-IsOtherForm bytes = (length bytes ≤ longest_input) × ((small : List ℕ) → Text bytes small → ⊥)
+IsOtherForm bytes = (length bytes ≤ longest_input) × ((small : Module) → Text bytes small → ⊥)
 
 -- the input is refused
 abbrev pub IsRefused : List ℕ → Type 0

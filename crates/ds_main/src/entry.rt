@@ -9,7 +9,7 @@ ghost use Rattle.ds_report.specs.Fault.{fault_text};
 ghost use Rattle.ds_report.specs.Report.{IsReport};
 ghost use Rattle.ds_main.specs.Job.{texts, HasJob, NoJob};
 ghost use Rattle.ds_main.specs.Input.{Held, IsAccepted, IsRefused};
-ghost use Rattle.ds_main.specs.Run.{IsEmpty, IsRunOfInput};
+ghost use Rattle.ds_main.specs.Run.{IsEmpty, IsRunOfInput, run_status, IsRunStatus};
 ghost use Rattle.ds_main.specs.Ending.{Call, Ends, ReplayEnds, status_of, IsDue, IsDueText, IsCutShort, IsFaultStatus, IsStatus};
 
 use crate::job::{Job, read_words};
@@ -76,7 +76,7 @@ fn answer<S: Source, K: Sink>(
 /// `replay` reads the source to its end, runs the module that its bytes spell, and writes the report of the
 /// run to the sink. It starts no thread, and calls no pace.
 ///
-/// The status is 0 where the job was done, 2 where no job has these words, 4 where the source failed, 1
+/// The status is 0 where the job was done, 3 where it was and a thread trapped, 2 where no job has these words, 4 where the source failed, 1
 /// where the source held too many bytes or no module, 5 where the sink failed, and 6 where memory ran out.
 /// With 1, 2 and 4 the line of the fault was written, and nothing was run. With 5 the sink has taken a front
 /// of what was due, and with 6 nothing.
@@ -91,11 +91,13 @@ pub fn dangsan_main<R: Threads + Sync, S: Source, K: Sink, P: Pace>(
     // The main theorem. Where the record is not empty, the input spells a module, at least one order of the
     // recorded steps is legal, and every legal order is, without log steps, a run of the plain machine on it.
     ensures headline { IsEmpty result.run ⊎ (HasJob (texts words.now) × IsRunOfInput (S.left source.old) result.run) }
-    // With status 0 there is a run, and the sink took its whole report.
-    ensures ran { result.status ≡ 0 → HasJob (texts words.now) × IsRunOfInput (S.left source.old) result.run }
-    ensures reported { result.status ≡ 0 → (text : List ℕ) × IsReport result.run.stops result.run.traces text
+    // With status 0 and 3 there is a run, whose status that is, and the sink took its whole report.
+    ensures ran { IsRunStatus result.status → HasJob (texts words.now) × IsRunOfInput (S.left source.old) result.run }
+    ensures reported { IsRunStatus result.status → (text : List ℕ) × IsReport result.run.stops result.run.traces text
         × Takes (K.taken sink.old) text (K.taken sink.new) }
-    ensures read_out { result.status ≡ 0 → S.left source.new ≡ option_map (λ _. []) (S.left source.old) }
+    ensures read_out { IsRunStatus result.status → S.left source.new ≡ option_map (λ _. []) (S.left source.old) }
+
+    ensures run_status { IsRunStatus result.status → result.status ≡ run_status result.run.stops }
 
     // 2: exactly where no job has these words.
     ensures usage { result.status ≡ 2 → NoJob (texts words.now) }
@@ -132,7 +134,7 @@ pub fn dangsan_main<R: Threads + Sync, S: Source, K: Sink, P: Pace>(
     // Completeness: where moreover the sink did not fail, the job is done.
     ensures complete { HasJob (texts words.now) → Held (S.left source.old) (λ bytes. IsAccepted bytes →
         ¬ Rose (S.faults source.old) (S.faults source.new) → ¬ Rose (K.faults sink.old) (K.faults sink.new) →
-        (result.status ≡ 0) ⊎ (result.status ≡ 6)) }
+        IsRunStatus result.status ⊎ (result.status ≡ 6)) }
 {
     answer(alloc, words, source, sink)
 }

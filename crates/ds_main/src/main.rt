@@ -7,10 +7,12 @@ mod job;
 mod pace;
 mod refuse;
 mod run;
+
+use ds_io::{StdSink, StdSource};
+
 #[cfg(test)]
 mod tests;
 
-use ds_io::{StdSink, StdSource};
 pub use entry::dangsan_main;
 pub use job::{ArgsFault, Job, read_words};
 pub use pace::{FreePace, Pace};

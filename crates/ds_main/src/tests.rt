@@ -89,6 +89,43 @@ fn reports_the_example_in_pieces_of_any_size(rt: HostRuntime) -> Result<(), Fail
 }
 
 #[test]
+fn loads_stores_and_traps(rt: HostRuntime) -> Result<(), Fail> {
+    let cases: [(&[u8], u8, &[u8]); 3] = [
+        (
+            b"@g = global i64 5
+define void @main() {
+  %a = load i64, ptr @g
+  store i64 -1, ptr @g
+  %b = load i64, ptr @g
+  call void @print_i64(i64 %a)
+  call void @print_i64(i64 %b)
+  ret void
+}
+declare void @print_i64(i64)",
+            0,
+            b"5\n-1\nmain returned; prints 2 mallocs 0 frees 0 notes 0 marks 0 traps 0\n",
+        ),
+        (
+            b"define void @main() { store i64 1, ptr null ret void } declare void @print_i64(i64)",
+            3,
+            b"trap thread 0 in @main instruction 0: bad address 0x0
+main trapped; prints 0 mallocs 0 frees 0 notes 0 marks 0 traps 1\n",
+        ),
+        (
+            b"define void @main() { %a = load i64, ptr @g ret void } declare void @print_i64(i64)",
+            1,
+            b"error: not in this stage's form\n",
+        ),
+    ];
+    for (text, status, taken) in cases {
+        let (ended, sink) = run_on(&rt, "replay", text, 4096, (NEVER, NEVER), 256)?;
+        assert_eq!(rt; ended.status, status);
+        assert_eq!(rt; sink.taken(), taken);
+    }
+    Ok(())
+}
+
+#[test]
 fn tells_each_fault_and_runs_nothing(rt: HostRuntime) -> Result<(), Fail> {
     let cases: [(&str, &[u8], (u32, u32), usize, u8, &[u8]); 7] = [
         ("walk", EXAMPLE, (NEVER, NEVER), 256, 2, b"error: usage\n"),

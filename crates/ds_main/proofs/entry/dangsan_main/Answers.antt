@@ -49,3 +49,6 @@ returns-clause-run_is_made g c = clauses.run_is_made _ c.answer.ensures
 
 pub returns-clause-complete : goal.returns-clause-complete
 returns-clause-complete g c = clauses.complete _ c.answer.ensures
+
+pub returns-clause-run_status : goal.returns-clause-run_status
+returns-clause-run_status g c = clauses.run_status_is _ c.answer.ensures
