@@ -76,8 +76,9 @@ fn answer<S: Source, K: Sink>(
 /// `replay` reads the source to its end, runs the module that its bytes spell, and writes the report of the
 /// run to the sink. It starts no thread, and calls no pace.
 ///
-/// The status is 0 where the job was done, 3 where it was and a thread trapped, 2 where no job has these words, 4 where the source failed, 1
-/// where the source held too many bytes or no module, 5 where the sink failed, and 6 where memory ran out.
+/// The status is 0 where the job was done, 3 where it was and a thread trapped, 2 where no job has these
+/// words, 4 where the source failed, 1 where the source held too many bytes or no module, 5 where the sink
+/// failed, and 6 where memory ran out.
 /// With 1, 2 and 4 the line of the fault was written, and nothing was run. With 5 the sink has taken a front
 /// of what was due, and with 6 nothing.
 pub fn dangsan_main<R: Threads + Sync, S: Source, K: Sink, P: Pace>(
@@ -96,7 +97,7 @@ pub fn dangsan_main<R: Threads + Sync, S: Source, K: Sink, P: Pace>(
     ensures reported { IsRunStatus result.status → (text : List ℕ) × IsReport result.run.stops result.run.traces text
         × Takes (K.taken sink.old) text (K.taken sink.new) }
     ensures read_out { IsRunStatus result.status → S.left source.new ≡ option_map (λ _. []) (S.left source.old) }
-
+    // It is 3 exactly where a thread trapped.
     ensures run_status { IsRunStatus result.status → result.status ≡ run_status result.run.stops }
 
     // 2: exactly where no job has these words.
