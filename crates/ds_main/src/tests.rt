@@ -112,15 +112,41 @@ declare void @print_i64(i64)",
 main trapped; prints 0 mallocs 0 frees 0 notes 0 marks 0 traps 1\n",
         ),
         (
-            b"define void @main() { %a = load i64, ptr @g ret void } declare void @print_i64(i64)",
-            1,
-            b"error: not in this stage's form\n",
+            b"define void @main() { call void @print_i64(i64 7) %a = load i64, ptr null ret void }
+declare void @print_i64(i64)",
+            3,
+            b"7\ntrap thread 0 in @main instruction 1: bad address 0x0
+main trapped; prints 1 mallocs 0 frees 0 notes 0 marks 0 traps 1\n",
         ),
     ];
     for (text, status, taken) in cases {
         let (ended, sink) = run_on(&rt, "replay", text, 4096, (NEVER, NEVER), 256)?;
         assert_eq!(rt; ended.status, status);
         assert_eq!(rt; sink.taken(), taken);
+    }
+    Ok(())
+}
+
+#[test]
+fn refuses_modules_of_another_form(rt: HostRuntime) -> Result<(), Fail> {
+    let texts: [&[u8]; 6] = [
+        b"define void @main() { %a = load i64, ptr @g ret void } declare void @print_i64(i64)",
+        b"define void @main() { call void @print_i64(i64 %a) %a = load i64, ptr null ret void }
+declare void @print_i64(i64)",
+        b"@main = global i64 1 define void @main() { ret void } declare void @print_i64(i64)",
+        b"@print_i64 = global i64 1 define void @main() { ret void } declare void @print_i64(i64)",
+        b"@ds_g = global i64 1 define void @main() { ret void } declare void @print_i64(i64)",
+        b"@g = global i64 18446744073709551616 define void @main() { ret void }
+declare void @print_i64(i64)",
+    ];
+    for text in texts {
+        let (ended, sink) = run_on(&rt, "replay", text, 4096, (NEVER, NEVER), 256)?;
+        assert_eq!(rt; ended.status, 1);
+        assert_eq!(rt;
+            sink.taken(),
+            b"error: not in this stage's form\n".as_slice()
+        );
+        assert!(rt; ended.run.stops.as_slice().is_empty());
     }
     Ok(())
 }
