@@ -1,9 +1,9 @@
 -- One more digit behind a number.
-use Rattle.std.proofs.Common.{◌≡◌, ℕ, ◌+◌, ◌-◌, ◌*◌, ◌^◌, ◌<◌, ◌≤◌, Bool, true, false, ◌&&◌, cond, ltb, List, [], ◌∷◌, Option, Some, None, refl, ap, arith}
+use Rattle.std.proofs.Common.{◌≡◌, ℕ, ◌+◌, ◌-◌, ◌*◌, ◌^◌, ◌<◌, ◌≤◌, Bool, true, false, ◌&&◌, cond, ltb, List, [], ◌∷◌, Option, Some, None, refl, ◌∙◌, ap, arith}
 use Rattle.std.proofs.lemmas.Bool.Decides.{nat_tests}
 use Rattle.std.specs.List.{list_all}
 use Rattle.ds_lex.specs.Bytes.{is_digit}
-use Rattle.ds_lex.specs.Number.{decimal, extended}
+use Rattle.ds_lex.specs.Number.{decimal, extended, is_small}
 
 -- digits behind a number make no smaller one
 grows : (n : ℕ) (bs : List ℕ) → n ≤ decimal n bs
@@ -45,3 +45,22 @@ fits true m k h = grind (arith, nat_tests)
 pub extended_fits : (n b k : ℕ) → extended n (b ∷ []) ≡ Some k → k < 2 ^ 64
 unfolding extended
 extended_fits n b k h = fits (is_digit b) (10 * n + (b - 48)) k h
+
+small_judged : (d fits : Bool) (m v : ℕ) → cond (d && fits) (Some m) None ≡ Some v → (d ≡ true) × (m ≡ v)
+small_judged true true m v h = let e : m ≡ v = cc in (refl, e)
+small_judged true false m v h = absurd cc
+small_judged false fits m v h = absurd cc
+
+pub small_some : (bs : List ℕ) (v : ℕ) → extended 0 bs ≡ Some v → is_small bs ≡ ltb v (2 ^ 32)
+unfolding extended is_small
+small_some bs v h =
+    let p = small_judged (list_all is_digit bs) (ltb (decimal 0 bs) (2 ^ 64)) (decimal 0 bs) v h in
+    ap (λ t. t && ltb (decimal 0 bs) (2 ^ 32)) p.0 ∙ ap (λ (n : ℕ). ltb n (2 ^ 32)) p.1
+
+small_refused : (d : Bool) (m : ℕ) → cond (d && ltb m (2 ^ 64)) (Some m) None ≡ None → (d && ltb m (2 ^ 32)) ≡ false
+small_refused false m h = refl
+small_refused true m h = grind (arith, nat_tests)
+
+pub small_none : (bs : List ℕ) → extended 0 bs ≡ None → is_small bs ≡ false
+unfolding extended is_small
+small_none bs h = small_refused (list_all is_digit bs) (decimal 0 bs) h

@@ -1,7 +1,7 @@
 -- Blanks and comments at the front.
 use Rattle.std.proofs.Common.{◌≡◌, ℕ, ◌≤◌, Bool, true, false, not, ◌==◌, Some, None, List, [], ◌∷◌, ◌++◌, length, take, drop, suc, refl, ◌∙◌, ap, inl, inr, arith}
 use Rattle.ds_lex.specs.declared.bytes.ByteClass.{ByteClass}
-use Rattle.ds_lex.specs.declared.bytes.ByteClass.TheVariants.{Blank, Semicolon, At, Percent, Minus, Digit, Letter, Mark, Other}
+use Rattle.ds_lex.specs.declared.bytes.ByteClass.TheVariants.{Blank, Semicolon, Percent, At, Hash, Bang, Quote, Minus, Digit, Letter, Mark, Other}
 use Rattle.ds_lex.specs.Bytes.{class_of}
 use Rattle.ds_lex.specs.Lexed.{IsGapFrom}
 use Rattle.ds_lex.specs.Scan.{gap_behind, gap_len, opens_comment, comment_behind}
@@ -23,6 +23,9 @@ by_class b bs Blank e f g = record { gap = inl (e, f.gap); rest = f.rest; within
 by_class b bs Semicolon e f g = record { gap = inr (e, g.gap); rest = g.rest; within = omega (arith, g.within) }
 by_class b bs At e f g = none_here b bs (ap (λ k. gap_behind k (gap_len false bs) (gap_len true bs)) e)
 by_class b bs Percent e f g = none_here b bs (ap (λ k. gap_behind k (gap_len false bs) (gap_len true bs)) e)
+by_class b bs Hash e f g = none_here b bs (ap (λ k. gap_behind k (gap_len false bs) (gap_len true bs)) e)
+by_class b bs Bang e f g = none_here b bs (ap (λ k. gap_behind k (gap_len false bs) (gap_len true bs)) e)
+by_class b bs Quote e f g = none_here b bs (ap (λ k. gap_behind k (gap_len false bs) (gap_len true bs)) e)
 by_class b bs Minus e f g = none_here b bs (ap (λ k. gap_behind k (gap_len false bs) (gap_len true bs)) e)
 by_class b bs Digit e f g = none_here b bs (ap (λ k. gap_behind k (gap_len false bs) (gap_len true bs)) e)
 by_class b bs Letter e f g = none_here b bs (ap (λ k. gap_behind k (gap_len false bs) (gap_len true bs)) e)
@@ -56,6 +59,9 @@ some_of_class Blank bs inside h = ap (λ (o : Bool). suc (gap_len o bs)) (let e 
 some_of_class Semicolon bs inside h = ap (λ (o : Bool). suc (gap_len o bs)) (let e : true ≡ inside = cc in e)
 some_of_class At bs inside h = cc
 some_of_class Percent bs inside h = cc
+some_of_class Hash bs inside h = cc
+some_of_class Bang bs inside h = cc
+some_of_class Quote bs inside h = cc
 some_of_class Minus bs inside h = cc
 some_of_class Digit bs inside h = cc
 some_of_class Letter bs inside h = cc
@@ -72,6 +78,9 @@ none_of_class Blank x y h = cc
 none_of_class Semicolon x y h = cc
 none_of_class At x y h = refl
 none_of_class Percent x y h = refl
+none_of_class Hash x y h = refl
+none_of_class Bang x y h = refl
+none_of_class Quote x y h = refl
 none_of_class Minus x y h = refl
 none_of_class Digit x y h = refl
 none_of_class Letter x y h = refl

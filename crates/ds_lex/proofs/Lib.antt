@@ -1,6 +1,15 @@
 pub mod Decimals
-pub mod Names
 pub mod Gaps
-pub mod Words
+pub mod Runs
+pub mod Firsts
+pub mod Forms
+pub mod Texts
+pub mod Judged
+pub mod Names
+pub mod Letters
+pub mod Numerals
+pub mod Sigils
+pub mod Fronts
+pub mod Agreement
 pub mod Places
 pub mod Lexing

@@ -1,12 +1,14 @@
 -- The tokens of a text.
-use Rattle.std.specs.Prelude.{◌≡◌, ℕ, ◌≤◌, Bool, true, false, not, ◌==◌, ◌⊎◌, List, [], ◌∷◌, length, drop, slice_range, IsTrue, IsFalse, IsSome, MatchBool}
+use Rattle.std.specs.Prelude.{◌≡◌, ℕ, ◌-◌, ◌<◌, ◌≤◌, ◌^◌, Bool, true, false, not, ◌==◌, ◌⊎◌, List, [], ◌∷◌, ◌++◌, length, take, drop, slice_range, IsTrue, IsFalse, IsSome, MatchBool}
 use Rattle.std.specs.List.{list_all}
-use Rattle.ds_lex.specs.declared.bytes.ByteClass.TheVariants.{Blank, Semicolon, At, Percent, Letter, Mark}
+use Rattle.ds_lex.specs.declared.bytes.ByteClass.{ByteClass}
+use Rattle.ds_lex.specs.declared.bytes.ByteClass.TheVariants.{Blank, Semicolon, Percent, At, Hash, Bang, Quote, Minus, Letter, Mark}
+use Rattle.ds_lex.specs.declared.bytes.RunOf.TheVariants.{NameBytes, Digits, TextBytes}
 use Rattle.ds_lex.specs.declared.token.TokenKind.{TokenKind}
-use Rattle.ds_lex.specs.declared.token.TokenKind.TheVariants.{Word, Global, Local, Number, Punct, End}
+use Rattle.ds_lex.specs.declared.token.TokenKind.TheVariants.{Word, Label, Local, Global, Attr, Meta, Number, Text, CText, Punct, End}
 use Rattle.ds_lex.specs.declared.token.Token.{Token}
-use Rattle.ds_lex.specs.Bytes.{class_of, begins_name, is_name_byte}
-use Rattle.ds_lex.specs.Number.{number_of}
+use Rattle.ds_lex.specs.Bytes.{class_of, begins_name, belongs}
+use Rattle.ds_lex.specs.Number.{decimal, number_of}
 
 -- Between tokens stand blanks and comments. A comment runs from a semicolon to a line feed (10), or to the end of the
 -- text. IsGapFrom inside gap rest: the bytes of gap stand before a token, rest follows them, and a comment is open before them.
@@ -20,50 +22,121 @@ IsGapFrom true (b ∷ bs) rest = IsGapFrom (not (b == 10)) bs rest
 -- a letter or -, and then any number of letters, - and digits
 abbrev pub IsName : List ℕ → Type 0
 IsName [] = ⊥
-IsName (b ∷ bs) = IsTrue (begins_name (class_of b)) × IsTrue (list_all is_name_byte bs)
+IsName (b ∷ bs) = IsTrue (begins_name (class_of b)) × IsTrue (list_all (belongs NameBytes) bs)
 
--- a name that begins with a letter
+-- a name that does not begin with -
 abbrev pub IsWord : List ℕ → Type 0
 IsWord [] = ⊥
-IsWord (b ∷ bs) = (class_of b ≡ Letter) × IsTrue (list_all is_name_byte bs)
+IsWord (b ∷ bs) = (class_of b ≡ Letter) × IsTrue (list_all (belongs NameBytes) bs)
 
--- @ and a name
-abbrev pub IsGlobal : List ℕ → Type 0
-IsGlobal [] = ⊥
-IsGlobal (b ∷ bs) = (class_of b ≡ At) × IsName bs
+-- one or more digits
+abbrev pub IsDigits : List ℕ → Type 0
+IsDigits [] = ⊥
+IsDigits (b ∷ bs) = IsTrue (list_all (belongs Digits) (b ∷ bs))
 
--- % and a name
-abbrev pub IsLocal : List ℕ → Type 0
-IsLocal [] = ⊥
-IsLocal (b ∷ bs) = (class_of b ≡ Percent) × IsName bs
+-- a byte of this class, and then what the property says
+abbrev pub IsBehind : ByteClass → (List ℕ → Type 0) → List ℕ → Type 0
+IsBehind class IsRest [] = ⊥
+IsBehind class IsRest (b ∷ bs) = (class_of b ≡ class) × IsRest bs
 
--- one bracket, = or ,
-abbrev pub IsPunct : List ℕ → Type 0
-IsPunct [] = ⊥
-IsPunct (b ∷ bs) = (class_of b ≡ Mark) × (bs ≡ [])
+-- the bytes up to and with a quote (34), of which none before it is one; no backslash hides a quote
+abbrev pub IsClosed : List ℕ → Type 0
+IsClosed bytes = (inside : List ℕ) × (bytes ≡ inside ++ 34 ∷ []) × IsTrue (list_all (belongs TextBytes) inside)
 
--- the spellings of each kind of token
+-- a quote, bytes other than quotes, and a quote
+abbrev pub IsText : List ℕ → Type 0
+IsText = IsBehind Quote IsClosed
+
+-- c (99) and then, at once, a text
+abbrev pub IsCText : List ℕ → Type 0
+IsCText [] = ⊥
+IsCText (b ∷ bs) = (b ≡ 99) × IsText bs
+
+-- a name, digits or a text
+abbrev pub IsAnyName : List ℕ → Type 0
+IsAnyName bytes = IsName bytes ⊎ (IsDigits bytes ⊎ IsText bytes)
+
+-- nothing, a name or digits
+abbrev pub IsMetaName : List ℕ → Type 0
+IsMetaName bytes = (bytes ≡ []) ⊎ (IsName bytes ⊎ IsDigits bytes)
+
+-- a word, digits or a text, and then, at once, a colon (58)
+abbrev pub IsLabel : List ℕ → Type 0
+IsLabel bytes = (name : List ℕ) × (bytes ≡ name ++ 58 ∷ []) × (IsWord name ⊎ (IsDigits name ⊎ IsText name))
+
+-- digits, maybe behind -
+abbrev pub IsInteger : List ℕ → Type 0
+IsInteger bytes = IsDigits bytes ⊎ IsBehind Minus IsDigits bytes
+
+-- The spellings of each kind of token, without their ranges, which IsInRange has. Which spelling is the longest is judged without ranges too:
+-- 4294967296: is a label whose name is too large, and no number.
 abbrev pub IsSpelling : TokenKind → List ℕ → Type 0
-IsSpelling Word word = IsWord word
-IsSpelling Global word = IsGlobal word
-IsSpelling Local word = IsLocal word
-IsSpelling Number word = IsSome (number_of word)
-IsSpelling Punct word = IsPunct word
-IsSpelling End word = word ≡ []
+IsSpelling Word bytes = IsWord bytes
+IsSpelling Label bytes = IsLabel bytes
+IsSpelling Local bytes = IsBehind Percent IsAnyName bytes
+IsSpelling Global bytes = IsBehind At IsAnyName bytes
+IsSpelling Attr bytes = IsBehind Hash IsDigits bytes
+IsSpelling Meta bytes = IsBehind Bang IsMetaName bytes
+IsSpelling Number bytes = IsInteger bytes
+IsSpelling Text bytes = IsText bytes
+IsSpelling CText bytes = IsCText bytes
+IsSpelling Punct bytes = IsBehind Mark (λ more. more ≡ []) bytes
+IsSpelling End bytes = bytes ≡ []
+
+-- the first n of the bytes spell a token of this kind, and no more of them spell a token of any kind
+pub record IsLongest (bytes : List ℕ) (kind : TokenKind) (n : ℕ) : Type 0 where
+  pub within : n ≤ length bytes
+  pub spelled : IsSpelling kind (take n bytes)
+  pub longest : (other : TokenKind) (m : ℕ) → n < m → m ≤ length bytes → IsSpelling other (take m bytes) → ⊥
 
 -- the bytes begin with one that goes on a name or a number before them
 abbrev pub goes_on : List ℕ → Bool
 goes_on [] = false
-goes_on (b ∷ bs) = is_name_byte b
+goes_on (b ∷ bs) = belongs NameBytes b
 
--- with these bytes behind it a token is the longest one, and End is the end
-abbrev pub IsLongest : TokenKind → List ℕ → Type 0
-IsLongest Word rest = IsFalse (goes_on rest)
-IsLongest Global rest = IsFalse (goes_on rest)
-IsLongest Local rest = IsFalse (goes_on rest)
-IsLongest Number rest = IsFalse (goes_on rest)
-IsLongest Punct rest = Unit {0}
-IsLongest End rest = rest ≡ []
+-- With these bytes behind it a token is whole: no byte goes on a number (12ab and 1-2 are none), and End is the end.
+abbrev pub IsWhole : TokenKind → List ℕ → Type 0
+IsWhole Number rest = IsFalse (goes_on rest)
+IsWhole End rest = rest ≡ []
+IsWhole Word rest = Unit {0}
+IsWhole Label rest = Unit {0}
+IsWhole Local rest = Unit {0}
+IsWhole Global rest = Unit {0}
+IsWhole Attr rest = Unit {0}
+IsWhole Meta rest = Unit {0}
+IsWhole Text rest = Unit {0}
+IsWhole CText rest = Unit {0}
+IsWhole Punct rest = Unit {0}
+
+-- a name in digits is a number below 2 ^ 32
+abbrev pub IsNameInRange : List ℕ → Type 0
+IsNameInRange name = IsDigits name → decimal 0 name < 2 ^ 32
+
+-- A number lies from -2 ^ 63 to 2 ^ 64 - 1; the name of a label stands before its colon, that of a local or a global behind its first byte.
+abbrev pub IsInRange : TokenKind → List ℕ → Type 0
+IsInRange Number bytes = IsSome (number_of bytes)
+IsInRange Label bytes = (name : List ℕ) → bytes ≡ name ++ 58 ∷ [] → IsNameInRange name
+IsInRange Local bytes = (first : ℕ) (name : List ℕ) → bytes ≡ first ∷ name → IsNameInRange name
+IsInRange Global bytes = (first : ℕ) (name : List ℕ) → bytes ≡ first ∷ name → IsNameInRange name
+IsInRange Word bytes = Unit {0}
+IsInRange Attr bytes = Unit {0}
+IsInRange Meta bytes = Unit {0}
+IsInRange Text bytes = Unit {0}
+IsInRange CText bytes = Unit {0}
+IsInRange Punct bytes = Unit {0}
+IsInRange End bytes = Unit {0}
+
+-- the first n of the bytes are a token of this kind
+pub record IsToken (bytes : List ℕ) (kind : TokenKind) (n : ℕ) : Type 0 where
+  pub longest : IsLongest bytes kind n
+  pub whole : IsWhole kind (drop n bytes)
+  pub in_range : IsInRange kind (take n bytes)
+
+-- from `at` to `start` the text has blanks and comments alone
+pub record IsGap (text : List ℕ) (at start : ℕ) : Type 0 where
+  pub behind : at ≤ start
+  pub within : start ≤ length text
+  pub gap : IsGapFrom false (slice_range text at start) (drop start text)
 
 -- the bytes of a token
 abbrev pub spelling : List ℕ → Token → List ℕ
@@ -71,19 +144,21 @@ spelling text t = slice_range text t.start t.end
 
 -- the first token behind `at` bytes of the text
 pub record IsTokenAt (text : List ℕ) (at : ℕ) (t : Token) : Type 0 where
-  pub behind : at ≤ t.start
+  pub gap : IsGap text at t.start
   pub ordered : t.start ≤ t.end
-  pub within : t.end ≤ length text
-  pub gap : IsGapFrom false (slice_range text at t.start) (drop t.start text)
-  pub spelled : IsSpelling t.kind (spelling text t)
-  pub longest : IsLongest t.kind (drop t.end text)
+  pub is : IsToken (drop t.start text) t.kind (t.end - t.start)
 
 -- the kind is that of the last token
 abbrev pub is_end : TokenKind → Bool
 is_end Word = false
-is_end Global = false
+is_end Label = false
 is_end Local = false
+is_end Global = false
+is_end Attr = false
+is_end Meta = false
 is_end Number = false
+is_end Text = false
+is_end CText = false
 is_end Punct = false
 is_end End = true
 

@@ -1,4 +1,5 @@
 pub mod Bytes
 pub mod Number
 pub mod Lexed
+pub mod Fault
 pub mod Scan

@@ -1,5 +1,5 @@
 -- Integers in decimal.
-use Rattle.std.specs.Prelude.{ℕ, ◌+◌, ◌-◌, ◌*◌, ◌%◌, ◌^◌, ◌&&◌, ◌==◌, nat_lt, nat_le, if◌then◌else◌, List, [], ◌∷◌, Option, Some, None, option_and_then}
+use Rattle.std.specs.Prelude.{ℕ, Bool, ◌+◌, ◌-◌, ◌*◌, ◌%◌, ◌^◌, ◌&&◌, ◌==◌, nat_lt, nat_le, if◌then◌else◌, List, [], ◌∷◌, Option, Some, None, option_and_then}
 use Rattle.std.specs.List.{list_all}
 use Rattle.ds_lex.specs.Bytes.{is_digit}
 
@@ -11,6 +11,10 @@ decimal n (b ∷ bs) = decimal (10 * n + (b - 48)) bs
 -- the number that n and the bytes behind it make, where all are digits and it is below 2 ^ 64
 unfoldable pub extended : ℕ → List ℕ → Option ℕ
 extended n bytes = if list_all is_digit bytes && nat_lt (decimal n bytes) (2 ^ 64) then Some (decimal n bytes) else None
+
+-- these are digits, and their number is below 2 ^ 32, as that of a name in digits is
+unfoldable pub is_small : List ℕ → Bool
+is_small bytes = list_all is_digit bytes && nat_lt (decimal 0 bytes) (2 ^ 32)
 
 -- the value of one or more digits, below 2 ^ 64
 unfoldable pub magnitude_of : List ℕ → Option ℕ

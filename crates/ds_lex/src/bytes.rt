@@ -9,17 +9,23 @@ pub enum ByteClass {
     Blank,
     /// `;`, which begins a comment.
     Semicolon,
-    /// `@`, which begins the name of a global.
-    At,
     /// `%`, which begins the name of a local.
     Percent,
+    /// `@`, which begins the name of a global.
+    At,
+    /// `#`, which begins the name of a group of attributes.
+    Hash,
+    /// `!`, which begins the name of metadata.
+    Bang,
+    /// `"`, which begins and ends a text.
+    Quote,
     /// `-`, a sign or a part of a name.
     Minus,
     /// `0` to `9`.
     Digit,
     /// `A` to `Z`, `a` to `z`, `$`, `.` and `_`.
     Letter,
-    /// One of `(`, `)`, `{`, `}`, `=` and `,`.
+    /// One of `(`, `)`, `{`, `}`, `[`, `]`, `,`, `=`, `*`, `<` and `>`.
     Mark,
     /// Any other byte, which begins no token.
     Other,
@@ -33,25 +39,44 @@ pub fn class_of(byte: u8) -> ByteClass
     match byte {
         b' ' | b'\t' | b'\r' | b'\n' => ByteClass::Blank,
         b';' => ByteClass::Semicolon,
-        b'@' => ByteClass::At,
         b'%' => ByteClass::Percent,
+        b'@' => ByteClass::At,
+        b'#' => ByteClass::Hash,
+        b'!' => ByteClass::Bang,
+        b'"' => ByteClass::Quote,
         b'-' => ByteClass::Minus,
         b'0'..=b'9' => ByteClass::Digit,
         b'A'..=b'Z' | b'a'..=b'z' | b'$' | b'.' | b'_' => ByteClass::Letter,
-        b'(' | b')' | b'{' | b'}' | b'=' | b',' => ByteClass::Mark,
+        b'(' | b')' | b'{' | b'}' | b'[' | b']' | b',' | b'=' | b'*' | b'<' | b'>' => {
+            ByteClass::Mark
+        }
         _ => ByteClass::Other,
     }
 }
 
-/// Whether a byte may stand in a name behind its first byte.
-#[tactic(auto, unfolding(crate::specs::Bytes::is_name_byte))]
-pub fn is_name_byte(byte: u8) -> bool
-    ensures { result ≡ spec.is_name_byte byte }
+/// A set of bytes of which a token has as many as stand there.
+#[derive(Clone, Copy, Debug, PartialEq, Eq)]
+pub enum RunOf {
+    /// What may stand in a name behind its first byte: letters, `-` and digits.
+    NameBytes,
+    /// Digits.
+    Digits,
+    /// What may stand in a text: all bytes but `"`.
+    TextBytes,
+}
+
+/// Whether the byte belongs to the set.
+pub fn belongs(set: RunOf, byte: u8) -> bool
+    ensures { result ≡ spec.belongs set byte }
 {
-    matches!(
-        class_of(byte),
-        ByteClass::Letter | ByteClass::Minus | ByteClass::Digit
-    )
+    match set {
+        RunOf::NameBytes => matches!(
+            class_of(byte),
+            ByteClass::Letter | ByteClass::Minus | ByteClass::Digit
+        ),
+        RunOf::Digits => byte.is_ascii_digit(),
+        RunOf::TextBytes => byte != b'"',
+    }
 }
 
 /// Whether a byte begins a name.
@@ -59,4 +84,11 @@ pub fn begins_name(byte: u8) -> bool
     ensures { result ≡ spec.begins_name (spec.class_of byte) }
 {
     matches!(class_of(byte), ByteClass::Letter | ByteClass::Minus)
+}
+
+/// Whether a byte begins a text.
+pub fn is_quote(byte: u8) -> bool
+    ensures { result ≡ spec.is_quote (spec.class_of byte) }
+{
+    matches!(class_of(byte), ByteClass::Quote)
 }

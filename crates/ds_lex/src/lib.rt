@@ -2,14 +2,18 @@
 #![tactic(auto)]
 
 mod bytes;
+mod fault;
 mod number;
 mod scanner;
 mod token;
+mod words;
 
-pub use bytes::ByteClass;
+pub use bytes::{ByteClass, RunOf};
+pub use fault::LexFault;
 pub use number::number_of;
-pub use scanner::{LexFault, lex};
+pub use scanner::{lex, tokens_or_fault};
 pub use token::{Token, TokenKind, Tokens};
+pub use words::Flaw;
 
 #[cfg(test)]
 mod tests;

@@ -15,6 +15,17 @@ pub fn number_of(word: &[u8]) -> Option<u64>
     }
 }
 
+/// Whether these are digits and their number is below 2^32, as that of a name in digits is.
+#[tactic(auto, unfolding(crate::specs::Number::is_small))]
+pub fn is_small(digits: &[u8]) -> bool
+    ensures { result ≡ spec.is_small digits.now }
+{
+    match digits_value(digits) {
+        Some(value) => value < 1 << 32,
+        None => false,
+    }
+}
+
 /// The number opposite to one of at most 2^63, modulo 2^64.
 #[tactic(auto, unfolding(crate::specs::Number::negated))]
 fn negated(magnitude: u64) -> Option<u64>

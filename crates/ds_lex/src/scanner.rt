@@ -1,40 +1,33 @@
 //! From bytes to tokens.
-ghost use Rattle.std.specs.Prelude.{◌≡◌, ◌≤◌, false, List, length, IfOk, IfSome, MatchResult};
+ghost use Rattle.std.specs.Prelude.{◌≡◌, ◌≤◌, ◌⊎◌, false, List, [], length, Ok, Err, IfOk, IfErr, IfSome, MatchResult};
 ghost use Rattle.ds_lex.specs.declared.token.Token.{Token};
 ghost use Rattle.ds_lex.specs.Lexed.{Lexed, IsTokenAt};
+ghost use Rattle.ds_lex.specs.Fault.{FaultFrom, HasFault, TokensOrFault};
 ghost use Rattle.ds_lex.specs.Scan as scan;
 
-use crate::bytes::{ByteClass, begins_name, class_of, is_name_byte};
-use crate::number::number_of;
+use crate::bytes::{ByteClass, class_of};
+use crate::fault::LexFault;
 use crate::token::{Token, TokenKind, Tokens};
+use crate::words::{Flaw, token_at};
 use std::alloc::Global;
-use thiserror::Error;
-
-/// Why a text gives no tokens.
-#[derive(Debug, Drop, Error, PartialEq, Eq)]
-pub enum LexFault {
-    /// The text is not made of tokens, blanks and comments.
-    #[error("not in this stage's form")]
-    OtherForm,
-    /// There is not enough memory for the tokens.
-    #[error("out of memory")]
-    Memory,
-}
 
 /// The tokens of a text of at most 8,388,608 bytes. Blanks and comments may stand before each token.
 ///
-/// `OtherForm` comes exactly where the text has no tokens: somewhere a byte begins none. `Memory` comes where
-/// there is not enough memory for the list.
+/// A text has tokens or one lexical fault, which `LexFault` lists: that of the first place at which a token should begin
+/// and none does. `Memory` comes where there is not enough memory for the list.
 pub fn lex(alloc: Global, text: &[u8]) -> Result<Tokens, LexFault>
     requires { length text.now ≤ 8388608 }
     ensures tokens { IfOk result (λ tokens. Lexed text.now tokens) }
     ensures only { (tokens : List Token) → Lexed text.now tokens →
         MatchResult result (λ found. found ≡ tokens) (λ fault. fault ≡ LexFault.Memory) }
+    ensures fault { IfErr result (λ fault. (fault ≡ LexFault.Memory) ⊎ HasFault text.now fault) }
+    ensures only_fault { (fault : LexFault) → HasFault text.now fault →
+        (result ≡ Err fault) ⊎ (result ≡ Err LexFault.Memory) }
 {
     let mut tokens = Vec::new(alloc);
     let mut at = 0;
     loop {
-        let token = next_token(text, at).ok_or(LexFault::OtherForm)?;
+        let token = next_token(text, at)?;
         tokens.push(token).map_err(|_| LexFault::Memory)?;
         match token.kind {
             TokenKind::End => return Ok(Tokens::new(tokens)),
@@ -43,20 +36,36 @@ pub fn lex(alloc: Global, text: &[u8]) -> Result<Tokens, LexFault>
     }
 }
 
-/// The first token behind `at` bytes of the text.
-fn next_token(text: &[u8], at: usize) -> Option<Token>
+/// The first token behind `at` bytes of the text, or the fault where it should begin.
+fn next_token(text: &[u8], at: usize) -> Result<Token, LexFault>
     requires small { length text.now ≤ 8388608 }
     requires within { at ≤ length text.now }
-    ensures found { IfSome result (λ token. IsTokenAt text.now at token) }
-    ensures only { (token : Token) → IsTokenAt text.now at token → result ≡ Some token }
+    ensures found { IfOk result (λ token. IsTokenAt text.now at token) }
+    ensures only { (token : Token) → IsTokenAt text.now at token → result ≡ Ok token }
+    ensures fault { IfErr result (λ fault. FaultFrom text.now at [] fault) }
+    ensures only_fault { (fault : LexFault) → FaultFrom text.now at [] fault → result ≡ Err fault }
 {
     let start = at + gap_len(&text[at..]);
-    let (kind, len) = token_at(&text[start..])?;
-    Some(Token {
-        kind,
-        start: start as u32,
-        end: (start + len) as u32,
-    })
+    match token_at(&text[start..]) {
+        Ok((kind, len)) => Ok(Token {
+            kind,
+            start: start as u32,
+            end: (start + len) as u32,
+        }),
+        Err(flaw) => Err(fault(flaw, start as u32, text.len() as u32)),
+    }
+}
+
+/// The fault of a text with this many bytes, where a token should begin behind the first `start`.
+fn fault(flaw: Flaw, start: u32, length: u32) -> LexFault
+    ensures { result ≡ scan.fault_of flaw start length }
+{
+    match flaw {
+        Flaw::Byte => LexFault::BadByte { at: start },
+        Flaw::Name => LexFault::BadName { at: start },
+        Flaw::Number => LexFault::BadNumber { at: start },
+        Flaw::Text => LexFault::OpenText { at: length },
+    }
 }
 
 /// How many bytes of blanks and comments stand at the front.
@@ -88,55 +97,7 @@ fn comment_behind(in_comment: bool, byte: u8) -> Option<bool>
     }
 }
 
-/// How many bytes at the front may go on a name.
-fn name_len(bytes: &[u8]) -> usize
-    ensures len { result ≡ scan.name_len bytes.now }
-    ensures within { result ≤ length bytes.now }
-{
-    for (i, byte) in bytes.iter().enumerate() {
-        if !is_name_byte(*byte) {
-            return i;
-        }
-    }
-    bytes.len()
-}
-
-/// The kind of the token at the front, and its number of bytes.
-#[tactic(auto, unfolding(crate::specs::Scan::token_at))]
-fn token_at(bytes: &[u8]) -> Option<(TokenKind, usize)>
-    ensures { result ≡ scan.token_at bytes.now }
-{
-    match bytes {
-        [] => Some((TokenKind::End, 0)),
-        [first, rest @ ..] => match class_of(*first) {
-            ByteClass::Letter => Some((TokenKind::Word, 1 + name_len(rest))),
-            ByteClass::At => named_at(TokenKind::Global, rest),
-            ByteClass::Percent => named_at(TokenKind::Local, rest),
-            ByteClass::Minus | ByteClass::Digit => number_at(bytes),
-            ByteClass::Mark => Some((TokenKind::Punct, 1)),
-            ByteClass::Blank | ByteClass::Semicolon | ByteClass::Other => None,
-        },
-    }
-}
-
-/// The token of this kind that the bytes behind an `@` or a `%` begin with.
-#[tactic(auto, unfolding(crate::specs::Scan::named_at))]
-fn named_at(kind: TokenKind, rest: &[u8]) -> Option<(TokenKind, usize)>
-    ensures { result ≡ scan.named_at kind rest.now }
-{
-    match rest {
-        [] => None,
-        [first, more @ ..] => { begins_name(*first).then_some((kind, 2 + name_len(more))) }
-    }
-}
-
-/// The number that the bytes begin with: all bytes that may go on a name are a number, or none begins here.
-#[tactic(auto, unfolding(crate::specs::Scan::number_at))]
-fn number_at(bytes: &[u8]) -> Option<(TokenKind, usize)>
-    ensures { result ≡ scan.number_at bytes.now }
-{
-    let len = name_len(bytes);
-    number_of(&bytes[..len])
-        .is_some()
-        .then_some((TokenKind::Number, len))
-}
+/// No text has both tokens and a lexical fault: a caller calls this function, which does nothing, and uses what it ensures.
+pub fn tokens_or_fault()
+    ensures { TokensOrFault }
+{}

@@ -3,18 +3,29 @@ ghost use Rattle.std.specs.Prelude.{◌≡◌};
 
 use std::marker::Model;
 
-/// What a token is.
+/// What a token is. A *name* is a letter (`A` to `Z`, `a` to `z`, `$`, `.` or `_`) or a `-`, and then any number of letters,
+/// `-` and digits; a *text* is a `"`, bytes other than `"`, and a `"`.
 #[derive(Clone, Copy, Debug, PartialEq, Eq)]
 pub enum TokenKind {
-    /// A name that does not begin with `-`, as `define`, `i64` and `print_i64`.
+    /// A name that does not begin with `-`, as `define`, `i64` and `seq_cst`.
     Word,
-    /// `@` and a name.
-    Global,
-    /// `%` and a name.
+    /// A word, digits below 2^32 or a text, and a `:` at once behind it.
+    Label,
+    /// `%` and a name, digits below 2^32 or a text.
     Local,
+    /// `@` and a name, digits below 2^32 or a text.
+    Global,
+    /// `#` and digits.
+    Attr,
+    /// `!` alone, or `!` and a name or digits.
+    Meta,
     /// One or more decimal digits, maybe behind a `-`, with a value from -2^63 to 2^64 - 1.
     Number,
-    /// One of `(`, `)`, `{`, `}`, `=` and `,`.
+    /// A text.
+    Text,
+    /// `c` and a text at once behind it.
+    CText,
+    /// One of `(`, `)`, `{`, `}`, `[`, `]`, `,`, `=`, `*`, `<` and `>`.
     Punct,
     /// The end of the text. It is empty, and the last token.
     End,

@@ -1,49 +1,86 @@
-use Rattle.std.proofs.Common.{◌≡◌, ℕ, ◌+◌, false, drop, sym, ◌∙◌, ap, subst, arith, length-drop}
+use Rattle.std.proofs.Common.{◌≡◌, ℕ, ◌+◌, false, length, drop, List, [], Ok, Err, sym, ◌∙◌, ap, subst, arith, length-drop}
 use Rattle.std.proofs.lemmas.List.{take_rest}
+use Rattle.ds_lex.specs.declared.token.Token.{Token}
+use Rattle.ds_lex.specs.declared.fault.LexFault.{LexFault}
 use Rattle.ds_lex.specs.Lexed.{IsTokenAt}
-use Rattle.ds_lex.specs.Scan.{gap_len, token_at}
-use Rattle.ds_lex.proofs.Words.{spells_at}
-use Rattle.ds_lex.proofs.Places.{found_at, one_token, same_token}
+use Rattle.ds_lex.specs.Fault.{FaultFrom}
+use Rattle.ds_lex.specs.Scan.{gap_len, token_at, fault_of}
+use Rattle.ds_lex.proofs.Lexing.{Next}
+use Rattle.ds_lex.proofs.Places.{gap_end, found_at, fault_at, token_within, one_token, one_fault, same_token, ok_is_no_err, same_flaw}
 use Rattle.ds_lex.proofs.scanner.next_token.Goals as goal
-
-pub returns-in_err-kind-clause-only : goal.returns-in_err-kind-clause-only
-returns-in_err-kind-clause-only c = λ t h.
-    let text = c.args.text.now in
-    let p = one_token text c.args.at t h in
-    let gap = c.gap_len.ensures.len ∙ ap (gap_len false) (take_rest text c.args.at) in
-    let e : c.args.at + c.gap_len.result ≡ t.start = omega (arith, gap, p.0) in
-    let none = c.in_err-kind.ensures ∙ ap token_at (take_rest text (c.args.at + c.gap_len.result)) ∙ ap (λ (i : ℕ). token_at (drop i text)) e in
-    absurd (cc (none, p.1))
 
 pub overflow_add-result : goal.overflow_add-result
 overflow_add-result c =
-    let start = c.args.at + c.gap_len.result in
-    let s = spells_at _ _ _ (sym (c.in_ok-kind.ensures ∙ ap token_at (take_rest c.args.text.now start))) in
-    omega (arith, s.within, length-drop start c.args.text.now)
-
-pub overflow_cast-result-2 : goal.overflow_cast-result-2
-overflow_cast-result-2 c =
-    let start = c.args.at + c.gap_len.result in
-    let s = spells_at _ _ _ (sym (c.in_ok-kind.ensures ∙ ap token_at (take_rest c.args.text.now start))) in
-    omega (arith, s.within, length-drop start c.args.text.now)
-
-pub returns-clause-found : goal.returns-clause-found
-returns-clause-found c =
     let text = c.args.text.now in
     let at = c.args.at in
-    let kind = c.in_ok-kind.kind in
-    let len = c.in_ok-kind.len in
-    let gap = c.gap_len.ensures.len ∙ ap (gap_len false) (take_rest text at) in
-    let found = ap (λ (n : ℕ). token_at (drop (at + n) text)) (sym gap) ∙ sym (c.in_ok-kind.ensures ∙ ap token_at (take_rest text (at + c.gap_len.result))) in
-    let P : ℕ → Type 0 = λ n. IsTokenAt text at (record { kind = kind; start = at + n; end = at + n + len }) in
+    let gap = ap (λ (n : ℕ). at + n) (c.gap_len.ensures.len ∙ ap (gap_len false) (take_rest text at)) in
+    let found = sym (c.in-Ok.ensures ∙ ap token_at (take_rest text (at + c.gap_len.result) ∙ ap (λ (n : ℕ). drop n text) gap)) in
+    omega (arith, gap, token_within text at _ (found_at text at c.in-Ok.kind c.in-Ok.len c.requires.within found), c.requires.small)
+
+pub overflow_cast-result-in-Ok : goal.overflow_cast-result-in-Ok
+overflow_cast-result-in-Ok c =
+    let text = c.args.text.now in
+    let at = c.args.at in
+    let gap = ap (λ (n : ℕ). at + n) (c.gap_len.ensures.len ∙ ap (gap_len false) (take_rest text at)) in
+    let found = sym (c.in-Ok.ensures ∙ ap token_at (take_rest text (at + c.gap_len.result) ∙ ap (λ (n : ℕ). drop n text) gap)) in
+    omega (arith, gap, token_within text at _ (found_at text at c.in-Ok.kind c.in-Ok.len c.requires.within found), c.requires.small)
+
+pub returns-in-Ok-clause-found : goal.returns-in-Ok-clause-found
+returns-in-Ok-clause-found c =
+    let text = c.args.text.now in
+    let at = c.args.at in
+    let kind = c.in-Ok.kind in
+    let len = c.in-Ok.len in
+    let gap = ap (λ (n : ℕ). at + n) (c.gap_len.ensures.len ∙ ap (gap_len false) (take_rest text at)) in
+    let found = sym (c.in-Ok.ensures ∙ ap token_at (take_rest text (at + c.gap_len.result) ∙ ap (λ (n : ℕ). drop n text) gap)) in
+    let P : ℕ → Type 0 = λ n. IsTokenAt text at (record { kind = kind; start = n; end = n + len }) in
     subst P (sym gap) (found_at text at kind len c.requires.within found)
 
-pub returns-clause-only : goal.returns-clause-only
-returns-clause-only c = λ t h.
+pub returns-in-Ok-clause-only : goal.returns-in-Ok-clause-only
+returns-in-Ok-clause-only c = λ t h.
     let text = c.args.text.now in
-    let start = c.args.at + c.gap_len.result in
-    let p = one_token text c.args.at t h in
-    let gap = c.gap_len.ensures.len ∙ ap (gap_len false) (take_rest text c.args.at) in
-    let e : start ≡ t.start = omega (arith, gap, p.0) in
-    let found = c.in_ok-kind.ensures ∙ ap token_at (take_rest text start) ∙ ap (λ (i : ℕ). token_at (drop i text)) e ∙ p.1 in
-    same_token t c.in_ok-kind.kind _ c.in_ok-kind.len e found h.ordered
+    let at = c.args.at in
+    let gap = ap (λ (n : ℕ). at + n) (c.gap_len.ensures.len ∙ ap (gap_len false) (take_rest text at)) in
+    let found = c.in-Ok.ensures ∙ ap token_at (take_rest text (at + c.gap_len.result) ∙ ap (λ (n : ℕ). drop n text) gap) in
+    let p = one_token text at t h in
+    let ok : Token → Next = λ u. Ok u in
+    ap ok (same_token t c.in-Ok.kind (at + c.gap_len.result) c.in-Ok.len (gap ∙ p.0) (found ∙ p.1) h.ordered)
+
+pub returns-in-Ok-clause-only_fault : goal.returns-in-Ok-clause-only_fault
+returns-in-Ok-clause-only_fault c = λ f h.
+    let text = c.args.text.now in
+    let at = c.args.at in
+    let gap = ap (λ (n : ℕ). at + n) (c.gap_len.ensures.len ∙ ap (gap_len false) (take_rest text at)) in
+    let found = c.in-Ok.ensures ∙ ap token_at (take_rest text (at + c.gap_len.result) ∙ ap (λ (n : ℕ). drop n text) gap) in
+    let p = one_fault text at f h in
+    absurd (ok_is_no_err _ _ (found ∙ p.found))
+
+pub returns-in-Err-clause-only : goal.returns-in-Err-clause-only
+returns-in-Err-clause-only c = λ t h.
+    let text = c.args.text.now in
+    let at = c.args.at in
+    let gap = ap (λ (n : ℕ). at + n) (c.gap_len.ensures.len ∙ ap (gap_len false) (take_rest text at)) in
+    let found = c.in-Err.ensures ∙ ap token_at (take_rest text (at + c.gap_len.result) ∙ ap (λ (n : ℕ). drop n text) gap) in
+    let p = one_token text at t h in
+    absurd (ok_is_no_err _ _ (sym p.1 ∙ sym found))
+
+pub returns-in-Err-clause-fault : goal.returns-in-Err-clause-fault
+returns-in-Err-clause-fault c =
+    let text = c.args.text.now in
+    let at = c.args.at in
+    let gap = ap (λ (n : ℕ). at + n) (c.gap_len.ensures.len ∙ ap (gap_len false) (take_rest text at)) in
+    let found = sym (c.in-Err.ensures ∙ ap token_at (take_rest text (at + c.gap_len.result) ∙ ap (λ (n : ℕ). drop n text) gap)) in
+    let P : LexFault → Type 0 = λ f. FaultFrom text at [] f in
+    let e = c.fault.ensures ∙ ap (λ (n : ℕ). fault_of c.in-Err.flaw n (length text)) gap in
+    subst P (sym e) (fault_at text at c.in-Err.flaw c.requires.within found)
+
+pub returns-in-Err-clause-only_fault : goal.returns-in-Err-clause-only_fault
+returns-in-Err-clause-only_fault c = λ f h.
+    let text = c.args.text.now in
+    let at = c.args.at in
+    let gap = ap (λ (n : ℕ). at + n) (c.gap_len.ensures.len ∙ ap (gap_len false) (take_rest text at)) in
+    let found = c.in-Err.ensures ∙ ap token_at (take_rest text (at + c.gap_len.result) ∙ ap (λ (n : ℕ). drop n text) gap) in
+    let p = one_fault text at f h in
+    let e = c.fault.ensures ∙ ap (λ (n : ℕ). fault_of c.in-Err.flaw n (length text)) gap in
+    let err : LexFault → Next = λ f. Err f in
+    ap err (e ∙ ap (λ w. fault_of w (gap_end text at) (length text)) (same_flaw _ _ (found ∙ p.found)) ∙ sym p.same)
