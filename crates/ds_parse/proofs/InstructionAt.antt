@@ -1,5 +1,5 @@
 -- The instruction at a place, as what stands there.
-use Rattle.std.proofs.Common.{◌≡◌, ℕ, ◌+◌, false, cond, Option, Some, None, is_some, ◌⊎◌, inl, inr, List, [], ◌∷◌, ◌++◌, length, drop, refl, sym, ◌∙◌, ap, subst}
+use Rattle.std.proofs.Common.{◌≡◌, ℕ, ◌+◌, Bool, true, false, cond, Option, Some, None, is_some, ◌⊎◌, inl, inr, List, [], ◌∷◌, ◌++◌, length, drop, refl, sym, ◌∙◌, ap, subst}
 use Rattle.std.specs.Option.{option_or}
 use Rattle.std.proofs.lemmas.Option.{option_and_then_some}
 use Rattle.std.proofs.lemmas.List.{length_push}
@@ -8,7 +8,7 @@ use Rattle.ds_small.specs.declared.SmallAddress.{SmallAddress}
 use Rattle.ds_small.specs.declared.SmallValue.{SmallValue}
 use Rattle.ds_small.specs.declared.SmallOp.{SmallOp}
 use Rattle.ds_small.specs.declared.SmallOp.TheVariants.{Load, Store, Print}
-use Rattle.ds_parse.specs.Form.{Lexeme, Names, no_names, with_name, word, punct, closing, print_front, print_tokens, store_front, pointer_front, store_tokens, load_front, load_tokens, value_of, address_of, IsBody}
+use Rattle.ds_parse.specs.Form.{Lexeme, Names, no_names, with_name, may_name_local, word, punct, closing, print_front, print_tokens, store_front, pointer_front, store_tokens, load_front, load_tokens, value_of, address_of, IsBody}
 use Rattle.ds_parse.specs.Reading.{◌>>=◌, Placed, same_lexeme, step_at, prefix_at, name_at, value_at, address_at, print_at, store_at, load_at, instruction_at, named}
 use Rattle.ds_parse.proofs.SoFar.{SoFar, so_far_begins, so_far_more}
 use Rattle.ds_parse.proofs.Steps.{lexeme, step_is, step_of, prefix_is, prefix_of, prefix_none, Slot, slot_is, slot_of, name_is, name_of, name_none}
@@ -165,12 +165,12 @@ pub record LoadAt (ls : List Lexeme) (globals locals : Names) (at : ℕ) (op : S
   pub name : List ℕ
   pub pointer : Lexeme
   pub is : op ≡ Load address
-  pub fresh : locals name ≡ None
+  pub fresh : may_name_local locals name ≡ true
   pub names : address_of globals pointer.0 pointer.1 ≡ Some address
   pub there : drop at ls ≡ load_tokens name pointer ++ drop n ls
 
 abbrev pub loaded : Names → List ℕ → ℕ → SmallAddress → Option Placed
-loaded locals name behind a = cond (is_some (locals name)) None (placed (Load a) (behind + 1))
+loaded locals name behind a = cond (may_name_local locals name) (placed (Load a) (behind + 1)) None
 
 abbrev pub after_load_front : List Lexeme → Names → Names → List ℕ → ℕ → Option Placed
 after_load_front ls globals locals name behind = address_at ls globals behind >>= loaded locals name behind
@@ -178,11 +178,11 @@ after_load_front ls globals locals name behind = address_at ls globals behind >>
 abbrev pub after_local : List Lexeme → Names → Names → ℕ → List ℕ → Option Placed
 after_local ls globals locals at name = prefix_at ls load_front (at + 1) >>= after_load_front ls globals locals name
 
-load_parts : (ls : List Lexeme) (globals locals : Names) (at : ℕ) (op : SmallOp) (n : ℕ) (name : List ℕ) (behind : ℕ) (a : SmallAddress) (o : Option ℕ)
+load_parts : (ls : List Lexeme) (globals locals : Names) (at : ℕ) (op : SmallOp) (n : ℕ) (name : List ℕ) (behind : ℕ) (a : SmallAddress) (t : Bool)
     → drop at ls ≡ lexeme Local name ∷ drop (at + 1) ls → drop (at + 1) ls ≡ load_front ++ drop behind ls → Slot (address_in globals) ls behind a
-    → locals name ≡ o → cond (is_some o) None (placed (Load a) (behind + 1)) ≡ placed op n → LoadAt ls globals locals at op n
-load_parts ls globals locals at op n name behind a (Some k) l f t fresh h = absurd cc
-load_parts ls globals locals at op n name behind a None l f t fresh h =
+    → may_name_local locals name ≡ t → cond t (placed (Load a) (behind + 1)) None ≡ placed op n → LoadAt ls globals locals at op n
+load_parts ls globals locals at op n name behind a false l f t fresh h = absurd cc
+load_parts ls globals locals at op n name behind a true l f t fresh h =
     let q = same_placed (Load a) op (behind + 1) n h in
     record {
       address = a;
@@ -200,11 +200,11 @@ load_is ls globals locals at op n h =
     option_and_then_some (after_local ls globals locals at) (name_at ls Local at) (op, n) h
     (λ name g e. option_and_then_some (after_load_front ls globals locals name) (prefix_at ls load_front (at + 1)) (op, n) e
     (λ behind p e2. option_and_then_some (loaded locals name behind) (address_at ls globals behind) (op, n) e2
-    (λ a d e3. load_parts ls globals locals at op n name behind a (locals name) (name_is ls Local at name g) (prefix_is ls load_front (at + 1) behind p)
+    (λ a d e3. load_parts ls globals locals at op n name behind a (may_name_local locals name) (name_is ls Local at name g) (prefix_is ls load_front (at + 1) behind p)
     (address_is ls globals behind a d) refl e3)))
 
 load_from : (ls : List Lexeme) (globals locals : Names) (at : ℕ) (name : List ℕ) (pointer : Lexeme) (a : SmallAddress) (more : List Lexeme)
-    → locals name ≡ None → address_of globals pointer.0 pointer.1 ≡ Some a → drop at ls ≡ load_tokens name pointer ++ more
+    → may_name_local locals name ≡ true → address_of globals pointer.0 pointer.1 ≡ Some a → drop at ls ≡ load_tokens name pointer ++ more
     → (n : ℕ) × (load_at ls globals locals at ≡ placed (Load a) n) × (drop n ls ≡ more)
 unfolding load_at
 load_from ls globals locals at name pointer a more fresh d h =
@@ -213,7 +213,7 @@ load_from ls globals locals at name pointer a more fresh d h =
     let t = address_from ls globals f.0 pointer a more d f.2 in (
       f.0 + 1,
       ap (λ o. o >>= after_local ls globals locals at) l.0 ∙ ap (λ o. o >>= after_load_front ls globals locals name) f.1
-          ∙ ap (λ o. o >>= loaded locals name f.0) t.0 ∙ ap (λ o. cond (is_some o) None (placed (Load a) (f.0 + 1))) fresh,
+          ∙ ap (λ o. o >>= loaded locals name f.0) t.0 ∙ ap (λ t. cond t (placed (Load a) (f.0 + 1)) None) fresh,
       t.1,
     )
 

@@ -6,3 +6,4 @@ pub mod InstructionAt
 pub mod GlobalAt
 pub mod WellFormed
 pub mod Modules
+pub mod Causes

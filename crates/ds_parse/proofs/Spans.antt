@@ -1,5 +1,5 @@
 -- Where the tokens of a text stand.
-use Rattle.std.proofs.Common.{◌≡◌, ℕ, ◌≤◌, Bool, true, false, Some, List, [], ◌∷◌, ◌++◌, length, zero, suc, refl, sym, ◌∙◌, ap, subst}
+use Rattle.std.proofs.Common.{◌≡◌, ℕ, ◌≤◌, Bool, true, false, Some, List, [], ◌∷◌, ◌++◌, length, zero, suc, refl, sym, ◌∙◌, ap, subst, arith, length-drop}
 use Rattle.std.specs.Prelude.{MatchBool, slice_get}
 use Rattle.ds_lex.specs.declared.token.TokenKind.TheVariants.{End}
 use Rattle.ds_lex.specs.declared.token.Token.{Token}
@@ -40,7 +40,7 @@ span text at [] i t l h = absurd l
 span text at (u ∷ us) zero t l h =
     let e : u ≡ t = cc in
     let P : Token → Type 0 = Span text in
-    subst P e (record { ordered = l.0.ordered; within = l.0.within })
+    subst P e (record { ordered = l.0.ordered; within = omega (arith, l.0.ordered, l.0.gap.within, l.0.is.longest.within, length-drop u.start text) })
 span text at (u ∷ us) (suc i) t l h =
     behind text u us i t (is_end u.kind) (followed text u us (is_end u.kind) refl l.1) h (λ m. span text u.end us i t m h)
 

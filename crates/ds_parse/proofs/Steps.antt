@@ -6,7 +6,7 @@ use Rattle.std.proofs.lemmas.Option.{option_and_then_some}
 use Rattle.std.proofs.lemmas.Slice.Eq.{slice_eq-Decides}
 use Rattle.std.proofs.lemmas.Bool.Decides.{Decides-eqb}
 use Rattle.ds_lex.specs.declared.token.TokenKind.{TokenKind}
-use Rattle.ds_lex.specs.declared.token.TokenKind.TheVariants.{Word, Global, Local, Number, Punct, End}
+use Rattle.ds_lex.specs.declared.token.TokenKind.TheVariants.{Word, Label, Local, Global, Attr, Meta, Number, Text, CText, Punct, End}
 use Rattle.ds_lex.specs.Number.{number_of}
 use Rattle.ds_parse.specs.Form.{Lexeme}
 use Rattle.ds_parse.specs.Reading.{kind_number, same_kind, same_lexeme, step_at, prefix_at, name_at, number_at}
@@ -24,12 +24,19 @@ get_of (y ∷ ys) zero x more h = (cc, cc)
 get_of (y ∷ ys) (suc i) x more h = get_of ys i x more h
 
 kind_of : ℕ → TokenKind
-kind_of n = cond (eqb n 0) Word (cond (eqb n 1) Global (cond (eqb n 2) Local (cond (eqb n 3) Number (cond (eqb n 4) Punct End))))
+kind_of n =
+    cond (eqb n 0) Word (cond (eqb n 1) Label (cond (eqb n 2) Local (cond (eqb n 3) Global (cond (eqb n 4) Attr (cond (eqb n 5) Meta
+    (cond (eqb n 6) Number (cond (eqb n 7) Text (cond (eqb n 8) CText (cond (eqb n 9) Punct End)))))))))
 
 kind_of_number : (k : TokenKind) → kind_of (kind_number k) ≡ k
 unfolding kind_of
 kind_of_number Word = refl
+kind_of_number Label = refl
 kind_of_number Global = refl
+kind_of_number Attr = refl
+kind_of_number Meta = refl
+kind_of_number Text = refl
+kind_of_number CText = refl
 kind_of_number Local = refl
 kind_of_number Number = refl
 kind_of_number Punct = refl

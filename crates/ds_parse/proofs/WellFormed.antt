@@ -3,7 +3,7 @@ use Rattle.std.proofs.Common.{◌≡◌, ℕ, ◌+◌, ◌<◌, Bool, true, fals
 use Rattle.std.specs.Prelude.{slice_get, option_map}
 use Rattle.std.specs.Str.{bytes_eq}
 use Rattle.ds_lex.specs.declared.token.TokenKind.{TokenKind}
-use Rattle.ds_lex.specs.declared.token.TokenKind.TheVariants.{Word, Global, Local, Number, Punct, End}
+use Rattle.ds_lex.specs.declared.token.TokenKind.TheVariants.{Word, Label, Local, Global, Attr, Meta, Number, Text, CText, Punct, End}
 use Rattle.ds_lex.specs.Number.{number_of}
 use Rattle.ds_small.specs.declared.SmallAddress.{SmallAddress}
 use Rattle.ds_small.specs.declared.SmallAddress.TheVariants as address
@@ -40,6 +40,11 @@ value_before small locals n Number bytes v l h = number_before small n (number_o
 value_before small locals n Local bytes v l h = result_before small n (locals bytes) v (λ k e. l bytes k e) h
 value_before small locals n Word bytes v l h = absurd cc
 value_before small locals n Global bytes v l h = absurd cc
+value_before small locals n Label bytes v l h = absurd cc
+value_before small locals n Attr bytes v l h = absurd cc
+value_before small locals n Meta bytes v l h = absurd cc
+value_before small locals n Text bytes v l h = absurd cc
+value_before small locals n CText bytes v l h = absurd cc
 value_before small locals n Punct bytes v l h = absurd cc
 value_before small locals n End bytes v l h = absurd cc
 
@@ -56,6 +61,11 @@ address_among globals n Global bytes a b h = global_among n (globals bytes) a (�
 address_among globals n Word bytes a b h = null_among n _ a h
 address_among globals n Local bytes a b h = absurd cc
 address_among globals n Number bytes a b h = absurd cc
+address_among globals n Label bytes a b h = absurd cc
+address_among globals n Attr bytes a b h = absurd cc
+address_among globals n Meta bytes a b h = absurd cc
+address_among globals n Text bytes a b h = absurd cc
+address_among globals n CText bytes a b h = absurd cc
 address_among globals n Punct bytes a b h = absurd cc
 address_among globals n End bytes a b h = absurd cc
 

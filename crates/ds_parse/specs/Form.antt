@@ -1,12 +1,14 @@
 -- The form of a module, in the tokens of its text.
-use Rattle.std.specs.Prelude.{◌≡◌, ℕ, ◌+◌, ◌≤◌, Bool, ◌&&◌, not, if◌then◌else◌, List, [], ◌∷◌, ◌++◌, length, map, count_by, Option, Some, None, option_map, codes, nat_eq, IsTrue}
+use Rattle.std.specs.Prelude.{◌≡◌, ℕ, ◌+◌, ◌≤◌, Bool, false, ◌&&◌, ◌==◌, not, if◌then◌else◌, List, [], ◌∷◌, ◌++◌, length, map, count_by, Option, Some, None, is_some, option_map, codes, nat_eq, IsTrue}
 use Rattle.std.specs.List.{starts_with}
 use Rattle.std.specs.Map.{update}
 use Rattle.std.specs.Str.{bytes_eq}
 use Prim.Native.String.{String}
 use Rattle.ds_lex.specs.declared.token.TokenKind.{TokenKind}
-use Rattle.ds_lex.specs.declared.token.TokenKind.TheVariants.{Word, Global, Local, Number, Punct, End}
+use Rattle.ds_lex.specs.declared.token.TokenKind.TheVariants.{Word, Label, Local, Global, Attr, Meta, Number, CText, Punct, End}
+use Rattle.ds_lex.specs.declared.token.TokenKind.TheVariants as kind
 use Rattle.ds_lex.specs.declared.token.Token.{Token}
+use Rattle.ds_lex.specs.Bytes.{is_digit}
 use Rattle.ds_lex.specs.Number.{number_of}
 use Rattle.ds_lex.specs.Lexed.{Lexed, spelling}
 use Rattle.ds_small.specs.declared.SmallAddress.{SmallAddress}
@@ -45,9 +47,19 @@ no_names name = None
 abbrev pub with_name : Names → List ℕ → ℕ → Names
 with_name names name n = update bytes_eq names name (Some n)
 
--- a global may have this name: it is not main, not print_i64 and does not begin with ds_
+-- Behind its first byte a name is plain: neither digits nor a text (34 is a quote), of which two spellings may be one name.
+unfoldable pub is_plain : List ℕ → Bool
+is_plain [] = false
+is_plain (first ∷ []) = false
+is_plain (first ∷ b ∷ bs) = not (is_digit b) && not (b == 34)
+
+-- a load may define this name: it is plain, and no load before it has it
+unfoldable pub may_name_local : Names → List ℕ → Bool
+may_name_local locals name = is_plain name && not (is_some (locals name))
+
+-- a global may have this name: it is plain, not main, not print_i64 and does not begin with ds_
 unfoldable pub may_name_global : List ℕ → Bool
-may_name_global name = not (bytes_eq name (codes "@main")) && not (bytes_eq name (codes "@print_i64")) && not (starts_with nat_eq name (codes "@ds_"))
+may_name_global name = is_plain name && not (bytes_eq name (codes "@main")) && not (bytes_eq name (codes "@print_i64")) && not (starts_with nat_eq name (codes "@ds_"))
 
 -- = global i64
 abbrev pub global_front : List Lexeme
@@ -100,7 +112,12 @@ abbrev pub value_of : Names → TokenKind → List ℕ → Option SmallValue
 value_of locals Number bytes = option_map (λ n. value.Number n) (number_of bytes)
 value_of locals Local bytes = option_map (λ k. value.Result k) (locals bytes)
 value_of locals Word bytes = None
+value_of locals Label bytes = None
 value_of locals Global bytes = None
+value_of locals Attr bytes = None
+value_of locals Meta bytes = None
+value_of locals kind.Text bytes = None
+value_of locals CText bytes = None
 value_of locals Punct bytes = None
 value_of locals End bytes = None
 
@@ -108,8 +125,13 @@ value_of locals End bytes = None
 abbrev pub address_of : Names → TokenKind → List ℕ → Option SmallAddress
 address_of globals Global bytes = option_map (λ g. address.Global g) (globals bytes)
 address_of globals Word bytes = if bytes_eq bytes (codes "null") then Some address.Null else None
+address_of globals Label bytes = None
 address_of globals Local bytes = None
+address_of globals Attr bytes = None
+address_of globals Meta bytes = None
 address_of globals Number bytes = None
+address_of globals kind.Text bytes = None
+address_of globals CText bytes = None
 address_of globals Punct bytes = None
 address_of globals End bytes = None
 
@@ -125,7 +147,7 @@ IsBody globals locals n tokens (Store v at ∷ ops) =
     (value : Lexeme) × (address : Lexeme) × (more : List Lexeme) × (value_of locals value.0 value.1 ≡ Some v) × (address_of globals address.0 address.1 ≡ Some at)
     × (tokens ≡ store_tokens value address ++ more) × IsBody globals locals (n + 1) more ops
 IsBody globals locals n tokens (Load at ∷ ops) =
-    (name : List ℕ) × (address : Lexeme) × (more : List Lexeme) × (locals name ≡ None) × (address_of globals address.0 address.1 ≡ Some at)
+    (name : List ℕ) × (address : Lexeme) × (more : List Lexeme) × IsTrue (may_name_local locals name) × (address_of globals address.0 address.1 ≡ Some at)
     × (tokens ≡ load_tokens name address ++ more) × IsBody globals (with_name locals name n) (n + 1) more ops
 
 -- What stands behind n definitions of globals, which have these names: a definition for each of these values, and then main with
@@ -150,3 +172,9 @@ lexemes text ts = map (λ t. (t.kind, spelling text t)) ts
 -- the text of this module
 abbrev pub Text : List ℕ → Module → Type 0
 Text text small = (ts : List Token) × Lexed text ts × Form (lexemes text ts) small
+
+-- the text has tokens, and spells no module
+pub record IsOtherForm (text : List ℕ) : Type 0 where
+  pub tokens : List Token
+  pub lexed : Lexed text tokens
+  pub none : (small : Module) → Text text small → ⊥

@@ -6,13 +6,13 @@ use Rattle.std.specs.Cmp.Lexicographic.{pointwise, slice_cmp}
 use Rattle.std.specs.Ordering.{nat_cmp}
 use denote.Ref.{Bor}
 use Rattle.ds_lex.specs.declared.token.TokenKind.{TokenKind}
-use Rattle.ds_lex.specs.declared.token.TokenKind.TheVariants.{Word, Global, Local, Number, Punct, End}
+use Rattle.ds_lex.specs.declared.token.TokenKind.TheVariants.{Word, Label, Local, Global, Attr, Meta, Number, Text, CText, Punct, End}
 use Rattle.ds_lex.specs.Number.{number_of}
 use Rattle.ds_small.specs.declared.SmallAddress.{SmallAddress}
 use Rattle.ds_small.specs.declared.SmallValue.{SmallValue}
 use Rattle.ds_small.specs.declared.SmallOp.{SmallOp}
 use Rattle.ds_small.specs.declared.SmallOp.TheVariants.{Load, Store, Print}
-use Rattle.ds_parse.specs.Form.{Lexeme, Names, with_name, may_name_global, global_front, print_front, load_front, store_front, pointer_front, punct, value_of, address_of}
+use Rattle.ds_parse.specs.Form.{Lexeme, Names, with_name, may_name_local, may_name_global, global_front, print_front, load_front, store_front, pointer_front, punct, value_of, address_of}
 
 -- goes on with what was found, if anything was
 infixl 10 ◌>>=◌
@@ -26,11 +26,16 @@ numbers_in names name = get_by (λ k. slice_cmp nat_cmp name k.now) names
 -- a number for each kind
 abbrev pub kind_number : TokenKind → ℕ
 kind_number Word = 0
-kind_number Global = 1
+kind_number Label = 1
 kind_number Local = 2
-kind_number Number = 3
-kind_number Punct = 4
-kind_number End = 5
+kind_number Global = 3
+kind_number Attr = 4
+kind_number Meta = 5
+kind_number Number = 6
+kind_number Text = 7
+kind_number CText = 8
+kind_number Punct = 9
+kind_number End = 10
 
 -- the two kinds are one
 abbrev pub same_kind : TokenKind → TokenKind → Bool
@@ -96,7 +101,7 @@ load_at ls globals locals at = do
   name ← name_at ls Local at
   behind ← prefix_at ls load_front (at + 1)
   address ← address_at ls globals behind
-  if is_some (locals name) then None else Some (Load address, behind + 1)
+  if may_name_local locals name then Some (Load address, behind + 1) else None
 
 -- the instruction at a place
 unfoldable pub instruction_at : List Lexeme → Names → Names → ℕ → Option Placed

@@ -8,7 +8,10 @@ use thiserror::Error;
 /// Why a text gives no module.
 #[derive(Debug, Drop, Error, PartialEq, Eq)]
 pub enum ParseFault {
-    /// The text is not of the form that this stage reads.
+    /// The text has this lexical fault, which is not `LexFault::Memory`.
+    #[error("{0}")]
+    Lex(LexFault),
+    /// The text has tokens and is not of the form that this stage reads.
     #[error("not in this stage's form")]
     OtherForm,
     /// There is not enough memory for the module or its tokens.
@@ -21,8 +24,8 @@ impl From<LexFault> for ParseFault {
 
     fn from(fault: LexFault) -> ParseFault {
         match fault {
-            LexFault::OtherForm => ParseFault::OtherForm,
             LexFault::Memory => ParseFault::Memory,
+            fault => ParseFault::Lex(fault),
         }
     }
 }

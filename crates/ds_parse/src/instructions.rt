@@ -5,7 +5,7 @@ ghost use Rattle.ds_parse.specs.Form.{no_names, closing, IsBody, lexemes};
 ghost use Rattle.ds_parse.specs.Reading.{numbers_in, print_at, store_at, load_at, instruction_at};
 
 use crate::lexemes::{name, prefix, step};
-use crate::names::{Names, address, define, value};
+use crate::names::{Names, address, define, may_name_local, value};
 use ds_lex::{Token, TokenKind};
 use ds_small::SmallOp;
 use std::alloc::{AllocError, Global};
@@ -146,8 +146,5 @@ fn load<'a>(
     let name = name(text, tokens, at, TokenKind::Local)?;
     let behind = prefix(text, tokens, at + 1, &LOAD_FRONT)?;
     let at = address(text, tokens, behind, globals)?;
-    if locals.contains_key(&name) {
-        return None;
-    }
-    Some((SmallOp::Load { at }, behind + 1))
+    may_name_local(name, locals).then_some((SmallOp::Load { at }, behind + 1))
 }

@@ -26,12 +26,31 @@ const RESERVED: &[u8] = b"@ds_";
 /// What spells the null pointer.
 const NULL: &[u8] = b"null";
 
+/// Whether a name, which stands behind its first byte, is a plain name: neither digits nor a text.
+#[tactic(auto, unfolding(crate::specs::Form::is_plain))]
+fn is_plain(name: &[u8]) -> bool
+    ensures { result ≡ form.is_plain name.now }
+{
+    match name {
+        [] | [_] => false,
+        [_, byte, ..] => !byte.is_ascii_digit() && *byte != b'"',
+    }
+}
+
+/// Whether a load may define this name.
+#[tactic(auto, unfolding(crate::specs::Form::may_name_local))]
+pub fn may_name_local<'a>(name: &'a [u8], locals: &Names<'a>) -> bool
+    ensures { result ≡ form.may_name_local (numbers_in locals.now) name.now }
+{
+    is_plain(name) && !locals.contains_key(&name)
+}
+
 /// Whether a global may have this name.
 #[tactic(auto, unfolding(crate::specs::Form::may_name_global))]
 pub fn may_name_global(name: &[u8]) -> bool
     ensures { result ≡ form.may_name_global name.now }
 {
-    name != MAIN && name != PRINT_I64 && !name.starts_with(RESERVED)
+    is_plain(name) && name != MAIN && name != PRINT_I64 && !name.starts_with(RESERVED)
 }
 
 /// Lets the name at a place stand for a number, if a token of this kind stands there.

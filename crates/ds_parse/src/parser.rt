@@ -1,7 +1,9 @@
 //! From the text of a module to its globals and instructions.
-ghost use Rattle.std.specs.Prelude.{◌≡◌, ◌≤◌, length, count_by, Err, IfOk, MatchResult};
+ghost use Rattle.std.specs.Prelude.{◌≡◌, ◌≤◌, ◌⊎◌, length, count_by, Err, IfOk, IfErr, MatchResult};
+ghost use Rattle.ds_lex.specs.declared.fault.LexFault.{LexFault};
+ghost use Rattle.ds_lex.specs.Fault.{HasFault};
 ghost use Rattle.ds_lex.specs.Lexed.{Lexed};
-ghost use Rattle.ds_parse.specs.Form.{Form, lexemes, Text};
+ghost use Rattle.ds_parse.specs.Form.{Form, lexemes, Text, IsOtherForm};
 ghost use Rattle.ds_small.specs.Module.{Module, IsWellFormed, is_load};
 
 use crate::fault::ParseFault;
@@ -44,8 +46,9 @@ const CLOSING: [(TokenKind, &[u8]); 10] = [
 /// 199,999 instructions beside its return, of which at most 65,536 are loads, and the declaration of `print_i64`.
 /// Each name is defined once and before it is used.
 ///
-/// `OtherForm` comes exactly where the text spells no such module. `Memory` comes where there is not enough
-/// memory for its tokens, its names or its instructions.
+/// `Lex` comes exactly where the text has a lexical fault, and names it. `OtherForm` comes exactly where the text has
+/// tokens and spells no such module. `Memory` comes where there is not enough memory for its tokens, its names or
+/// its instructions.
 pub fn parse(alloc: Global, text: &[u8]) -> Result<Small, ParseFault>
     requires { length text.now ≤ 8388608 }
     ensures spelled { IfOk result (λ small. Text text.now small) }
@@ -53,7 +56,11 @@ pub fn parse(alloc: Global, text: &[u8]) -> Result<Small, ParseFault>
     // A text spells one module at most, and each text that spells one is read, if there is memory.
     ensures only { (small : Module) → Text text.now small →
         MatchResult result (λ found. found ≡ small) (λ fault. fault ≡ ParseFault.Memory) }
-    ensures other_form { result ≡ Err ParseFault.OtherForm → (small : Module) → Text text.now small → ⊥ }
+    ensures lexical { (fault : LexFault) → result ≡ Err (ParseFault.Lex fault) → HasFault text.now fault }
+    ensures only_lexical { (fault : LexFault) → HasFault text.now fault →
+        (result ≡ Err (ParseFault.Lex fault)) ⊎ (result ≡ Err ParseFault.Memory) }
+    ensures other_form { result ≡ Err ParseFault.OtherForm → IsOtherForm text.now }
+    ensures only_other_form { IsOtherForm text.now → (result ≡ Err ParseFault.OtherForm) ⊎ (result ≡ Err ParseFault.Memory) }
 {
     let tokens = lex(alloc, text)?;
     module(alloc, text, tokens.as_slice())
@@ -63,6 +70,7 @@ pub fn parse(alloc: Global, text: &[u8]) -> Result<Small, ParseFault>
 fn module(alloc: Global, text: &[u8], tokens: &[Token]) -> Result<Small, ParseFault>
     requires { Lexed text.now tokens.now }
     ensures form { IfOk result (λ small. Form (lexemes text.now tokens.now) small) }
+    ensures faults { IfErr result (λ fault. (fault ≡ ParseFault.OtherForm) ⊎ (fault ≡ ParseFault.Memory)) }
     ensures only { (small : Module) → Form (lexemes text.now tokens.now) small →
         MatchResult result (λ found. found ≡ small) (λ fault. fault ≡ ParseFault.Memory) }
 {

@@ -1,5 +1,6 @@
 //! Texts and their modules.
 use super::*;
+use ds_lex::LexFault;
 use ds_small::{SmallAddress, SmallOp, SmallValue};
 use std::alloc::{AllocError, Global};
 use std::test::Fail;
@@ -21,9 +22,8 @@ fn expect_module(
             assert_eq!(rt; small.code(), code, "of {text:?}");
         }
         (Ok(_), None) => panic!(rt; "{text:?} spells no module"),
-        (Err(ParseFault::OtherForm), Some(_)) => panic!(rt; "{text:?} spells a module"),
         (Err(ParseFault::OtherForm), None) => {}
-        (Err(ParseFault::Memory), _) => panic!(rt; "no memory for {text:?}"),
+        (Err(fault), _) => panic!(rt; "{text:?}: {fault}"),
     }
 }
 
@@ -134,6 +134,8 @@ fn texts_of_no_module(rt: HostRuntime) -> Result<(), Fail> {
         "@g = global i64 5 @g = global i64 6 define void @main() { ret void } declare void @print_i64(i64)",
         "@ds_x = global i64 5 define void @main() { ret void } declare void @print_i64(i64)",
         "@main = global i64 5 define void @main() { ret void } declare void @print_i64(i64)",
+        "@0 = global i64 5 define void @main() { ret void } declare void @print_i64(i64)",
+        "@\"g\" = global i64 5 define void @main() { ret void } declare void @print_i64(i64)",
         "@print_i64 = global i64 5 define void @main() { ret void } declare void @print_i64(i64)",
     ];
     for text in table {
@@ -146,8 +148,10 @@ fn texts_of_no_module(rt: HostRuntime) -> Result<(), Fail> {
 fn bodies_of_no_module(rt: HostRuntime) -> Result<(), Fail> {
     let alloc = rt.alloc();
     let table = [
-        "call void @print_i64(i64 12ab)",
-        "call void @print_i64(i64 18446744073709551616)",
+        "entry:",
+        "%0 = load i64, ptr @g",
+        "%\"a\" = load i64, ptr @g",
+        "call void @print_i64(i64 [1])",
         "call void @print_i64(i64 @g)",
         "call void @print_i64(i64 null)",
         "call void @print_i64(i64 %a) %a = load i64, ptr @g",
@@ -164,6 +168,28 @@ fn bodies_of_no_module(rt: HostRuntime) -> Result<(), Fail> {
             "@g = global i64 5 define void @main() {{ {body} ret void }} declare void @print_i64(i64)"
         )?;
         expect_module(&rt, alloc, &text, None);
+    }
+    Ok(())
+}
+
+#[test]
+fn texts_with_a_lexical_fault(rt: HostRuntime) -> Result<(), Fail> {
+    let alloc = rt.alloc();
+    let table = [
+        ("define void ?", LexFault::BadByte { at: 12 }),
+        ("define void @main( @", LexFault::BadName { at: 19 }),
+        (
+            "call void @print_i64(i64 18446744073709551616)",
+            LexFault::BadNumber { at: 25 },
+        ),
+        ("source_filename = \"a.c", LexFault::OpenText { at: 22 }),
+    ];
+    for (text, wanted) in table {
+        assert!(rt; text.len() < 100);
+        match parse(alloc, text.as_bytes()) {
+            Err(ParseFault::Lex(fault)) => assert_eq!(rt; fault, wanted, "of {text:?}"),
+            _ => panic!(rt; "{text:?} has a lexical fault"),
+        }
     }
     Ok(())
 }
