@@ -5,7 +5,7 @@ use Rattle.ds_small.specs.Module.{Module}
 use Rattle.ds_io.specs.Counts.{Rose}
 use Rattle.ds_io.specs.Source.{GivesAll}
 use Rattle.ds_report.specs.declared.fault.Fault.{Fault}
-use Rattle.ds_report.specs.declared.fault.Fault.TheVariants.{Usage, Read, TooLong, OtherForm}
+use Rattle.ds_report.specs.declared.fault.Fault.TheVariants.{Usage, Read, TooLong, Parse}
 use Rattle.ds_report.specs.Fault.{fault_text}
 use Rattle.ds_main.specs.Job.{HasJob}
 use Rattle.ds_main.specs.Run.{IsEmpty, IsRunOfModule, IsRunOfInput}
@@ -40,7 +40,7 @@ due : (words : List (List ℕ)) (left : Option (List ℕ)) (read_rose : Type 0) 
 due words left read_rose Usage job input = absurd input
 due words left read_rose Read job input = (job, input)
 due words left read_rose TooLong job input = (job, input)
-due words left read_rose OtherForm job input = (job, input)
+due words left read_rose (Parse fault) job input = (job, input)
 
 fault_ends : (call : Call) (fault : Fault) → Faults call fault → IsEmpty call.run
     → Delivers (fault_text fault) (status_of fault) call.taken call.taken_after call.writes call.writes_after call.status ⊎ Unwritten call.taken call.taken_after call.status → Ends call

@@ -7,11 +7,15 @@ use Rattle.ds_io.specs.Source.{GivesAll}
 use Rattle.ds_io.specs.Sink.{Takes, TakesFront}
 use Rattle.ds_core.specs.declared.record.RunRecord.{RunRecord}
 use Rattle.ds_report.specs.declared.fault.Fault.{Fault}
-use Rattle.ds_report.specs.declared.fault.Fault.TheVariants.{Usage, Read, TooLong, OtherForm}
+use Rattle.ds_report.specs.declared.fault.Fault.TheVariants.{Usage, Read, TooLong, Parse}
+use Rattle.ds_lex.specs.declared.fault.LexFault.TheVariants.{BadByte, BadName, BadNumber, OpenText}
+use Rattle.ds_lex.specs.declared.fault.LexFault.TheVariants as lex
+use Rattle.ds_parse.specs.declared.fault.ParseFault.{ParseFault}
+use Rattle.ds_parse.specs.declared.fault.ParseFault.TheVariants.{Lex, OtherForm, Memory}
 use Rattle.ds_report.specs.Fault.{fault_text}
 use Rattle.ds_report.specs.Report.{IsReport}
 use Rattle.ds_main.specs.Job.{HasJob, NoJob}
-use Rattle.ds_main.specs.Input.{Held, Spells, IsTooLong, IsOtherForm}
+use Rattle.ds_main.specs.Input.{Held, Spells, IsTooLong, HasLexFault, IsUnspelled}
 use Rattle.ds_main.specs.Run.{IsEmpty, IsRunOfModule, IsRunOfInput, run_status, IsRunStatus}
 
 -- the status of a fault
@@ -19,21 +23,31 @@ abbrev pub status_of : Fault → ℕ
 status_of Usage = 2
 status_of Read = 4
 status_of TooLong = 1
-status_of OtherForm = 1
+status_of (Parse fault) = 1
+
+-- The bytes that the source held, where it tells them, have this fault. Want of memory is none.
+abbrev pub IsParseFault : Option (List ℕ) → ParseFault → Type 0
+IsParseFault left (Lex (BadByte at)) = Held left (HasLexFault (BadByte at))
+IsParseFault left (Lex (BadName at)) = Held left (HasLexFault (BadName at))
+IsParseFault left (Lex (BadNumber at)) = Held left (HasLexFault (BadNumber at))
+IsParseFault left (Lex (OpenText at)) = Held left (HasLexFault (OpenText at))
+IsParseFault left (Lex lex.Memory) = ⊥
+IsParseFault left OtherForm = Held left IsUnspelled
+IsParseFault left Memory = ⊥
 
 -- The input has this fault, and none that is looked for before it.
 abbrev pub IsInputFault : Option (List ℕ) → (read_rose : Type 0) → Fault → Type 0
 IsInputFault left read_rose Usage = ⊥
 IsInputFault left read_rose Read = read_rose
 IsInputFault left read_rose TooLong = Held left IsTooLong
-IsInputFault left read_rose OtherForm = Held left IsOtherForm
+IsInputFault left read_rose (Parse fault) = IsParseFault left fault
 
--- The fault is the first that stands, in the order in which they are looked for: the words, the reading, the length, the form.
+-- The fault is the first that stands, in the order in which they are looked for: the words, the reading, the length, the tokens, the form.
 abbrev pub IsDue : List (List ℕ) → Option (List ℕ) → (read_rose : Type 0) → Fault → Type 0
 IsDue words left read_rose Usage = NoJob words
 IsDue words left read_rose Read = HasJob words × IsInputFault left read_rose Read
 IsDue words left read_rose TooLong = HasJob words × IsInputFault left read_rose TooLong
-IsDue words left read_rose OtherForm = HasJob words × IsInputFault left read_rose OtherForm
+IsDue words left read_rose (Parse fault) = HasJob words × IsInputFault left read_rose (Parse fault)
 
 -- what a call was given and what it left: its words; what the source held, and how often it had failed; what the sink held, and how often it had failed
 pub record Call : Type 0 where

@@ -18,6 +18,7 @@ use crate::refuse::{out_of_memory, refuse};
 use crate::run::run_and_report;
 use ds_core::Ended;
 use ds_io::{ReadAllFault, Sink, Source, read_all};
+use ds_lex::tokens_or_fault;
 use ds_parse::{ParseFault, parse};
 use ds_report::Fault;
 use std::alloc::Global;
@@ -33,13 +34,14 @@ fn replay<S: Source, K: Sink>(alloc: Global, source: &mut S, sink: &mut K) -> En
 {
     let bytes = match read_all(alloc, source, LONGEST_INPUT) {
         Ok(bytes) => bytes,
-        Err(ReadAllFault::Read) => return refuse(alloc, sink, Fault::Read),
-        Err(ReadAllFault::TooLong) => return refuse(alloc, sink, Fault::TooLong),
+        Err(ReadAllFault::Read) => return refuse(alloc, sink, &Fault::Read),
+        Err(ReadAllFault::TooLong) => return refuse(alloc, sink, &Fault::TooLong),
         Err(ReadAllFault::Memory) => return out_of_memory(alloc),
     };
     match parse(alloc, bytes.as_slice()) {
         Ok(small) => run_and_report(alloc, sink, &small),
-        Err(ParseFault::OtherForm) => refuse(alloc, sink, Fault::OtherForm),
+        Err(ParseFault::Lex(fault)) => refuse(alloc, sink, &Fault::Parse(ParseFault::Lex(fault))),
+        Err(ParseFault::OtherForm) => refuse(alloc, sink, &Fault::Parse(ParseFault::OtherForm)),
         Err(ParseFault::Memory) => out_of_memory(alloc),
     }
 }
@@ -67,7 +69,7 @@ fn answer<S: Source, K: Sink>(
 {
     match read_words(words) {
         Ok(Job::Replay) => replay(alloc, source, sink),
-        Err(_) => refuse(alloc, sink, Fault::Usage),
+        Err(_) => refuse(alloc, sink, &Fault::Usage),
     }
 }
 
@@ -107,7 +109,7 @@ pub fn dangsan_main<R: Threads + Sync, S: Source, K: Sink, P: Pace>(
     // 4: only where the source failed.
     ensures read_failed { result.status ≡ 4 → HasJob (texts words.now) × Rose (S.faults source.old) (S.faults source.new) }
 
-    // 1: exactly where the source held more than 8,388,608 bytes, or bytes that spell no module.
+    // 1: exactly where the source held more than 8,388,608 bytes, bytes with a lexical fault, or bytes that spell no module.
     ensures refused { result.status ≡ 1 → HasJob (texts words.now) × Held (S.left source.old) IsRefused }
     ensures refusal_is_told { HasJob (texts words.now) → Held (S.left source.old) (λ bytes. IsRefused bytes →
         (result.status ≡ 1) ⊎ ((result.status ≡ 4) × Rose (S.faults source.old) (S.faults source.new)) ⊎ IsCutShort result.status) }
@@ -137,5 +139,6 @@ pub fn dangsan_main<R: Threads + Sync, S: Source, K: Sink, P: Pace>(
         ¬ Rose (S.faults source.old) (S.faults source.new) → ¬ Rose (K.faults sink.old) (K.faults sink.new) →
         IsRunStatus result.status ⊎ (result.status ≡ 6)) }
 {
+    tokens_or_fault();
     answer(alloc, words, source, sink)
 }

@@ -12,13 +12,13 @@ use ds_report::{Fault, fault_line};
 use std::alloc::Global;
 
 /// The status of a fault.
-fn status_by(fault: Fault) -> u8
-    ensures { result ≡ status_of fault }
+fn status_by(fault: &Fault) -> u8
+    ensures { result ≡ status_of fault.now }
 {
     match fault {
         Fault::Usage => 2,
         Fault::Read => 4,
-        Fault::TooLong | Fault::OtherForm => 1,
+        Fault::TooLong | Fault::Parse(_) => 1,
     }
 }
 
@@ -34,8 +34,8 @@ pub fn out_of_memory(alloc: Global) -> Ended
 }
 
 /// Ends a call by a fault: its line is written, and nothing is run.
-pub fn refuse<K: Sink>(alloc: Global, sink: &mut K, fault: Fault) -> Ended
-    ensures told { Delivers (fault_text fault) (status_of fault) (K.taken sink.old) (K.taken sink.new) (K.faults sink.old) (K.faults sink.new) result.status
+pub fn refuse<K: Sink>(alloc: Global, sink: &mut K, fault: &Fault) -> Ended
+    ensures told { Delivers (fault_text fault.now) (status_of fault.now) (K.taken sink.old) (K.taken sink.new) (K.faults sink.old) (K.faults sink.new) result.status
         ⊎ Unwritten (K.taken sink.old) (K.taken sink.new) result.status }
     ensures empty { IsEmpty result.run }
 {

@@ -128,6 +128,28 @@ main trapped; prints 1 mallocs 0 frees 0 notes 0 marks 0 traps 1\n",
 }
 
 #[test]
+fn refuses_texts_with_a_lexical_fault(rt: HostRuntime) -> Result<(), Fail> {
+    let cases: [(&[u8], &[u8]); 6] = [
+        (b"?", b"error: bad byte at 0\n"),
+        (b"% ", b"error: bad name at 0\n"),
+        (b"12ab", b"error: bad number at 0\n"),
+        (b"source_filename = \"a.c", b"error: open text at 22\n"),
+        (b"define void @main() \xff\x00", b"error: bad byte at 20\n"),
+        (
+            b"@g = global i64 18446744073709551616 ?",
+            b"error: bad number at 16\n",
+        ),
+    ];
+    for (text, taken) in cases {
+        let (ended, sink) = run_on(&rt, "replay", text, 4096, (NEVER, NEVER), 256)?;
+        assert_eq!(rt; ended.status, 1);
+        assert_eq!(rt; sink.taken(), taken);
+        assert!(rt; ended.run.stops.as_slice().is_empty());
+    }
+    Ok(())
+}
+
+#[test]
 fn refuses_modules_of_another_form(rt: HostRuntime) -> Result<(), Fail> {
     let texts: [&[u8]; 6] = [
         b"define void @main() { %a = load i64, ptr @g ret void } declare void @print_i64(i64)",
@@ -136,8 +158,7 @@ declare void @print_i64(i64)",
         b"@main = global i64 1 define void @main() { ret void } declare void @print_i64(i64)",
         b"@print_i64 = global i64 1 define void @main() { ret void } declare void @print_i64(i64)",
         b"@ds_g = global i64 1 define void @main() { ret void } declare void @print_i64(i64)",
-        b"@g = global i64 18446744073709551616 define void @main() { ret void }
-declare void @print_i64(i64)",
+        b"@0 = global i64 1 define void @main() { ret void } declare void @print_i64(i64)",
     ];
     for text in texts {
         let (ended, sink) = run_on(&rt, "replay", text, 4096, (NEVER, NEVER), 256)?;

@@ -1,5 +1,7 @@
 use crate::{Fault, fault_line, render};
 use ds_core::replay_small;
+use ds_lex::LexFault;
+use ds_parse::ParseFault;
 use ds_small::{Small, SmallAddress, SmallOp, SmallValue};
 use std::test::Fail;
 
@@ -47,13 +49,22 @@ fn reports_a_store_through_null(rt: HostRuntime) -> Result<(), Fail> {
 
 #[test]
 fn tells_each_fault(rt: HostRuntime) -> Result<(), Fail> {
+    let bad_byte = Fault::Parse(ParseFault::Lex(LexFault::BadByte { at: 0 }));
+    let bad_name = Fault::Parse(ParseFault::Lex(LexFault::BadName { at: 10 }));
+    let bad_number = Fault::Parse(ParseFault::Lex(LexFault::BadNumber { at: 8_388_607 }));
+    let open_text = Fault::Parse(ParseFault::Lex(LexFault::OpenText { at: 22 }));
+    let other_form = Fault::Parse(ParseFault::OtherForm);
     let cases = [
         (Fault::Usage, "error: usage\n"),
         (Fault::Read, "error: read failed\n"),
         (Fault::TooLong, "error: input longer than 8388608 bytes\n"),
-        (Fault::OtherForm, "error: not in this stage's form\n"),
+        (bad_byte, "error: bad byte at 0\n"),
+        (bad_name, "error: bad name at 10\n"),
+        (bad_number, "error: bad number at 8388607\n"),
+        (open_text, "error: open text at 22\n"),
+        (other_form, "error: not in this stage's form\n"),
     ];
-    for (fault, want) in cases {
+    for (fault, want) in &cases {
         let line = fault_line(rt.alloc(), fault)?;
         assert_eq!(rt; line.as_slice(), want.as_bytes(), "{fault:?}");
     }
