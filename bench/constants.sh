@@ -2,11 +2,7 @@
 # Times `dangsan replay` on modules that print constants, and on texts of comments and blanks near the longest
 # input, and prints time (the best of three runs) and the peak of memory. Doubling the input should at most
 # take 2.3 times the time; the largest should stay below 2 s and 400 MB.
-set -eu
-top=$(cd "$(dirname "$0")/.." && pwd)
-. "$top/bench/measure.sh"
-work=$(mktemp -d)
-trap 'rm -rf "$work"' EXIT
+. "$(dirname "$0")/measure.sh"
 
 # a module that prints so many constants
 constants() {
@@ -17,16 +13,15 @@ constants() {
     echo 'declare void @print_i64(i64)'
 }
 
-"$top/dangsan" replay <"$top/examples/constants.ll" >/dev/null
 for count in 25000 50000 100000 199999; do
     constants "$count" >"$work/constants"
-    measure "$count prints" "$work/constants" "$top/crates/ds_main/out/ds_main" replay
+    measure "$count prints" "$work/constants" replay
 done
 for size in 1000000 2000000 4000000 8000000; do
     { constants 4; awk -v n="$size" 'BEGIN { for (i = 0; i < n / 100; i++) printf "; %96s\n", "a comment that fills the line" }'; } >"$work/comments"
-    measure "comments" "$work/comments" "$top/crates/ds_main/out/ds_main" replay
+    measure "comments" "$work/comments" replay
 done
 for size in 1000000 2000000 4000000 8000000; do
     { constants 4; head -c "$size" /dev/zero | tr '\0' ' '; } >"$work/blanks"
-    measure "blanks" "$work/blanks" "$top/crates/ds_main/out/ds_main" replay
+    measure "blanks" "$work/blanks" replay
 done

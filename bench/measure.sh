@@ -1,10 +1,18 @@
-# For the scripts beside it: runs a command on an input, and prints the input's size, the time and the peak of memory.
-# usage: measure LABEL INPUT COMMAND..
+# For the scripts beside it, which begin with it: builds the program where it is missing or older than its sources,
+# and makes the folder "$work" for their inputs, which is removed as they end.
+set -eu
+top=$(cd "$(dirname "$0")/.." && pwd)
+work=$(mktemp -d)
+trap 'rm -rf "$work"' EXIT
+"$top/dangsan" replay <"$top/examples/constants.ll" >/dev/null
+
+# Runs the program on an input, and prints the input's size, the time (the best of three runs) and the peak of memory.
+# usage: measure LABEL INPUT WORD.. (the words are the program's job)
 measure() {
     label=$1
     input=$2
     shift 2
-    python3 - "$label" "$input" "$@" <<'PYTHON'
+    python3 - "$label" "$input" "$top/crates/ds_main/out/ds_main" "$@" <<'PYTHON'
 import os, resource, subprocess, sys, time
 label, path, command = sys.argv[1], sys.argv[2], sys.argv[3:]
 best = None

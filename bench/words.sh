@@ -2,11 +2,7 @@
 # Times `dangsan replay` on modules of loads, stores and prints: 25, 50 and 100 per cent of the most that the form
 # allows (200,000 instructions with 65,536 loads). Prints time (the best of three runs) and the peak of memory.
 # Doubling the input should at most take 2.3 times the time; the largest should stay below 2 s and 600 MB.
-set -eu
-top=$(cd "$(dirname "$0")/.." && pwd)
-. "$top/bench/measure.sh"
-work=$(mktemp -d)
-trap 'rm -rf "$work"' EXIT
+. "$(dirname "$0")/measure.sh"
 
 # a module with so many globals, loads and instructions in all, the return counted
 words() {
@@ -22,8 +18,7 @@ words() {
     }'
 }
 
-"$top/dangsan" replay <"$top/examples/words.ll" >/dev/null
 for part in 25 50 100; do
     words $((4096 * part / 100)) $((65536 * part / 100)) $((200000 * part / 100)) >"$work/words"
-    measure "$part per cent" "$work/words" "$top/crates/ds_main/out/ds_main" replay
+    measure "$part per cent" "$work/words" replay
 done
