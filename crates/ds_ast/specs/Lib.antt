@@ -1,0 +1,4 @@
+pub mod Bounds
+pub mod Equality
+pub mod Equations
+pub mod Groups
