@@ -1,0 +1,10 @@
+pub mod Outcome
+pub mod Told
+pub mod Complete
+pub mod More
+pub mod Threaded
+pub mod Worst
+pub mod Ends
+pub mod Laws
+pub mod Runs
+pub mod Parsed

@@ -1,0 +1,16 @@
+pub mod Sort
+pub mod Grammar
+pub mod Form
+pub mod Lexemes
+pub mod Words
+pub mod Texts
+pub mod Tokens
+pub mod Rows
+pub mod Fault
+pub mod Reading
+pub mod Parsed
+pub mod Laws
+pub mod Types
+pub mod Instructions
+pub mod Globals
+pub mod Functions
