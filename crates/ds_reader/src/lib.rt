@@ -1,0 +1,26 @@
+//! A place among the tokens of a text, and the readers of the parts that several rows of the grammar share.
+#![tactic(auto)]
+
+mod arrays;
+mod brackets;
+mod literals;
+mod operands;
+mod parts;
+mod rest;
+mod runs;
+mod texts;
+mod types;
+mod words;
+
+pub use literals::{fits_type, kept, range_mark};
+pub use operands::{
+    global, is_next_word, local, optional_atomic, same_scalar, scalar_word, target, typed_value,
+    word,
+};
+pub use parts::{is_punct, punct, result_name, scalar, value};
+pub use rest::Rest;
+pub use runs::{
+    ending_last, endings, ignored_from, ignored_run, is_metadata, next_ending, run_item, run_rest,
+};
+pub use types::type_of;
+pub use words::{BIN_OP_WORDS, find, scalar_of};
