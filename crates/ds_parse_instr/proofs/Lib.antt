@@ -1,0 +1,5 @@
+pub mod Inside
+pub mod Parsing
+pub mod Taken
+pub mod Cases
+pub mod Never

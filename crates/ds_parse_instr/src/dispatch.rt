@@ -1,0 +1,160 @@
+//! An instruction, by what begins it.
+ghost use Rattle.std.specs.Prelude.{◌≡◌, None, false, if◌then◌else◌, option_map};
+ghost use Rattle.ds_grammar.specs.declared.item.Head.TheVariants as head;
+ghost use Rattle.ds_grammar.specs.Reading.{Gives, value_at};
+ghost use Rattle.ds_grammar.specs.Rows as rows;
+ghost use Rattle.ds_grammar.specs.Instructions as instructions;
+ghost use Rattle.ds_grammar.specs.Instructions.{if_none};
+ghost use Rattle.ds_grammar.specs.Tokens.{lookup};
+
+use crate::arithmetic::{binary_row, cast_row, icmp_row, select_row};
+use crate::calls::call_row;
+use crate::control::{br_row, ret_row, switch_row, unreachable_row};
+use crate::listed::{alloca_row, gep_row, phi_row};
+use crate::memory::{cmpxchg_row, extract_row, fence_row, load_row, rmw_row, store_row};
+use crate::ops::CAST_OP_WORDS;
+use ds_ast::{Instr, Op};
+use ds_grammar::{Head, ParseFault, RunItem};
+use ds_lex::TokenKind;
+use ds_reader::{BIN_OP_WORDS, Rest, find, ignored_from, result_name, run_item, run_rest, word};
+use std::alloc::Global;
+
+/// The words that begin an instruction with a result.
+const RESULT_WORDS: [(&[u8], Head); 10] = [
+    (b"icmp", Head::Icmp),
+    (b"select", Head::Select),
+    (b"alloca", Head::Alloca),
+    (b"load", Head::Load),
+    (b"getelementptr", Head::Gep),
+    (b"call", Head::Call),
+    (b"phi", Head::Phi),
+    (b"atomicrmw", Head::Rmw),
+    (b"cmpxchg", Head::Cmpxchg),
+    (b"extractvalue", Head::Extract),
+];
+
+/// The words that begin an instruction without a result.
+const OTHER_WORDS: [(&[u8], Head); 6] = [
+    (b"store", Head::Store),
+    (b"fence", Head::Fence),
+    (b"ret", Head::Ret),
+    (b"br", Head::Br),
+    (b"switch", Head::Switch),
+    (b"unreachable", Head::Unreachable),
+];
+
+/// What the one word of a row begins, where behind the name of a result no instruction without one stands.
+fn row_word(named: bool, bytes: &[u8]) -> Option<Head>
+    ensures { result ≡ if_none (lookup instructions.result_words bytes.now) (if named then None else lookup instructions.other_words bytes.now) }
+{
+    match find(&RESULT_WORDS, bytes) {
+        Some(head) => Some(head),
+        None => {
+            if named {
+                None
+            } else {
+                find(&OTHER_WORDS, bytes)
+            }
+        }
+    }
+}
+
+/// What a word begins, where behind the name of a result no instruction without one stands.
+fn head_word(named: bool, bytes: &[u8]) -> Option<Head>
+    ensures { result ≡ instructions.head_word named bytes.now }
+{
+    match find(&BIN_OP_WORDS, bytes) {
+        Some(op) => Some(Head::Binary(op)),
+        None => match find(&CAST_OP_WORDS, bytes) {
+            Some(op) => Some(Head::Cast(op)),
+            None => row_word(named, bytes),
+        },
+    }
+}
+
+/// What a token begins that does not begin a row: before a call a run of ignored words may stand.
+fn ignored_head(kind: TokenKind, bytes: &[u8]) -> Option<Head>
+    ensures { result ≡ option_map (λ i. head.Ignored i) (rows.run_item false kind bytes.now) }
+{
+    match run_item(false, kind, bytes) {
+        Some(item) => Some(Head::Ignored(item)),
+        None => None,
+    }
+}
+
+/// What a token begins.
+fn head_of(named: bool, kind: TokenKind, bytes: &[u8]) -> Option<Head>
+    ensures { result ≡ instructions.head_of named kind bytes.now }
+{
+    match kind {
+        TokenKind::Word => match head_word(named, bytes) {
+            Some(head) => Some(head),
+            None => ignored_head(kind, bytes),
+        },
+        _ => ignored_head(kind, bytes),
+    }
+}
+
+/// A call behind the first item of a run of ignored words.
+#[tactic(auto, unfolding(ds_grammar::specs::Instructions::ignored_call))]
+fn ignored_call<'a>(
+    alloc: Global,
+    named: bool,
+    item: RunItem,
+    rest: Rest<'a>,
+) -> Result<(Op, Rest<'a>), ParseFault>
+    ensures { Gives result (value_at (instructions.ignored_call named item) rest.entry) }
+{
+    let (after_word, rest) = run_rest(alloc, item, rest)?;
+    let (_, rest) = ignored_from(alloc, after_word, rest)?;
+    let rest = word(b"call", rest)?;
+    call_row(alloc, named, rest)
+}
+
+/// The row that begins so, behind the name of a result or not.
+fn row_of<'a>(
+    alloc: Global,
+    named: bool,
+    head: Head,
+    rest: Rest<'a>,
+) -> Result<(Op, Rest<'a>), ParseFault>
+    ensures { Gives result (value_at (instructions.row_of named head) rest.entry) }
+{
+    match head {
+        Head::Binary(op) => binary_row(alloc, op, rest),
+        Head::Cast(op) => cast_row(alloc, op, rest),
+        Head::Icmp => icmp_row(alloc, rest),
+        Head::Select => select_row(alloc, rest),
+        Head::Alloca => alloca_row(alloc, rest),
+        Head::Load => load_row(alloc, rest),
+        Head::Store => store_row(alloc, rest),
+        Head::Gep => gep_row(alloc, rest),
+        Head::Call => call_row(alloc, named, rest),
+        Head::Phi => phi_row(alloc, rest),
+        Head::Rmw => rmw_row(alloc, rest),
+        Head::Cmpxchg => cmpxchg_row(alloc, rest),
+        Head::Extract => extract_row(alloc, rest),
+        Head::Fence => fence_row(rest),
+        Head::Ret => ret_row(alloc, rest),
+        Head::Br => br_row(alloc, rest),
+        Head::Switch => switch_row(alloc, rest),
+        Head::Unreachable => unreachable_row(rest),
+        Head::Ignored(item) => ignored_call(alloc, named, item, rest),
+    }
+}
+
+/// An instruction: the name of its result, where it has one and it is written, and a row.
+#[tactic(auto, unfolding(ds_grammar::specs::Instructions::instruction))]
+pub fn instruction<'a>(alloc: Global, rest: Rest<'a>) -> Result<(Instr, Rest<'a>), ParseFault>
+    ensures { Gives result (value_at instructions.instruction rest.entry) }
+{
+    let (result, rest) = result_name(alloc, rest)?;
+    let named = result.is_some();
+    let read = match rest.peek() {
+        Some((kind, bytes, _)) => head_of(named, kind, bytes),
+        None => None,
+    };
+    let (head, rest) = rest.take(read)?;
+    let (op, rest) = row_of(alloc, named, head, rest)?;
+    Ok((Instr { result, op }, rest))
+}

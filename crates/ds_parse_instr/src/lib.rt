@@ -1,0 +1,17 @@
+//! From tokens to an instruction.
+#![tactic(auto)]
+
+mod arithmetic;
+mod calls;
+mod control;
+mod dispatch;
+mod listed;
+mod memory;
+mod ops;
+mod parser;
+mod trails;
+
+pub use parser::parse_instr;
+
+#[cfg(test)]
+mod tests;
