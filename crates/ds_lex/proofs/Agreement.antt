@@ -9,12 +9,12 @@ use Rattle.ds_lex.specs.declared.token.TokenKind.TheVariants.{End}
 use Rattle.ds_lex.specs.declared.words.Flaw.{Flaw}
 use Rattle.ds_lex.specs.declared.words.Flaw.TheVariants as flaw
 use Rattle.ds_lex.specs.Bytes.{class_of, is_quote}
-use Rattle.ds_lex.specs.Lexed.{IsSpelling, IsLongest, IsWhole, IsInRange, IsToken}
+use Rattle.ds_lex.specs.Lexed.{IsSpelling, IsLongest, IsWhole, IsToken}
 use Rattle.ds_lex.specs.Fault.{BeginsNone, Begins, IsNoToken, IsFaultAt}
 use Rattle.ds_lex.specs.Scan.{Scanned, fault_of, gap_len, gap_behind}
 use Rattle.ds_lex.proofs.Firsts.{First, is_sigil, is_stray, quote_is, begins_stray, begins_sigil, begins_quote, first_of}
 use Rattle.ds_lex.proofs.Forms.{opened}
-use Rattle.ds_lex.proofs.Judged.{Only, Judged, longest, one_longest}
+use Rattle.ds_lex.proofs.Judged.{Judged, longest, one_longest}
 use Rattle.ds_lex.proofs.Fronts.{end_only}
 
 -- why no token begins the bytes

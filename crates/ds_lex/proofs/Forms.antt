@@ -1,5 +1,5 @@
 -- What may be spelled behind the first byte, by its class.
-use Rattle.std.proofs.Common.{◌≡◌, ℕ, ◌+◌, ◌≤◌, Bool, true, false, ◌&&◌, ◌⊎◌, eqb, List, [], ◌∷◌, ◌++◌, length, refl, sym, ◌∙◌, ap, subst, inl, inr, arith, append_assoc}
+use Rattle.std.proofs.Common.{◌≡◌, ℕ, true, ◌⊎◌, List, [], ◌∷◌, ◌++◌, refl, sym, ◌∙◌, ap, subst, inl, inr, arith, append_assoc}
 use Rattle.std.proofs.lemmas.Bool.Decides.{nat_tests}
 use Rattle.std.specs.List.{list_all}
 use Rattle.ds_lex.specs.declared.bytes.ByteClass.{ByteClass}
@@ -7,8 +7,8 @@ use Rattle.ds_lex.specs.declared.bytes.ByteClass.TheVariants.{Blank, Semicolon, 
 use Rattle.ds_lex.specs.declared.bytes.RunOf.TheVariants.{NameBytes, Digits, TextBytes}
 use Rattle.ds_lex.specs.declared.token.TokenKind.{TokenKind}
 use Rattle.ds_lex.specs.declared.token.TokenKind.TheVariants.{Word, Label, Local, Global, Attr, Meta, Number, Text, CText, Punct, End}
-use Rattle.ds_lex.specs.Bytes.{is_digit, class_of, begins_name, belongs}
-use Rattle.ds_lex.specs.Lexed.{IsName, IsWord, IsDigits, IsClosed, IsText, IsAnyName, IsMetaName, IsSpelling}
+use Rattle.ds_lex.specs.Bytes.{is_digit, class_of, belongs}
+use Rattle.ds_lex.specs.Lexed.{IsWord, IsDigits, IsClosed, IsText, IsAnyName, IsMetaName, IsSpelling}
 use Rattle.ds_lex.proofs.Runs.{and_parts}
 
 -- bytes of names and a colon

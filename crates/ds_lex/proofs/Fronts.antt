@@ -1,10 +1,9 @@
 -- The token at the front of bytes is the one found, or there is none.
-use Rattle.std.proofs.Common.{◌≡◌, ℕ, ◌<◌, ◌≤◌, Bool, true, false, ◌⊎◌, cond, List, [], ◌∷◌, ◌++◌, length, take, drop, Option, Some, None, Ok, Err, suc, zero, refl, sym, ◌∙◌, ap, subst, inl, inr, arith}
+use Rattle.std.proofs.Common.{◌≡◌, ℕ, ◌<◌, ◌≤◌, Bool, true, false, ◌⊎◌, cond, List, [], ◌∷◌, ◌++◌, length, take, drop, Option, Some, None, Ok, suc, zero, refl, ap, inl, inr, arith}
 use Rattle.ds_lex.specs.declared.bytes.ByteClass.{ByteClass}
 use Rattle.ds_lex.specs.declared.bytes.ByteClass.TheVariants.{Blank, Semicolon, Percent, At, Hash, Bang, Quote, Minus, Digit, Letter, Mark, Other}
 use Rattle.ds_lex.specs.declared.token.TokenKind.{TokenKind}
 use Rattle.ds_lex.specs.declared.token.TokenKind.TheVariants.{Word, Label, Local, Global, Attr, Meta, Number, Text, CText, Punct, End}
-use Rattle.ds_lex.specs.declared.words.Flaw.TheVariants as flaw
 use Rattle.ds_lex.specs.Bytes.{class_of, is_quote}
 use Rattle.ds_lex.specs.Lexed.{IsSpelling}
 use Rattle.ds_lex.specs.Scan.{closed_len, text_len, starts_colon, labelled, quoted_by, quoted, gap_len, gap_behind, token_of_class, token_at}
@@ -12,7 +11,7 @@ use Rattle.ds_lex.proofs.Runs.{take_next, has_next}
 use Rattle.ds_lex.proofs.Firsts.{is_stray}
 use Rattle.ds_lex.proofs.Forms.{Forms}
 use Rattle.ds_lex.proofs.Texts.{closed_only, closed_colon, text_only, text_is, text_here}
-use Rattle.ds_lex.proofs.Judged.{Only, Judged, only_behind, none_behind}
+use Rattle.ds_lex.proofs.Judged.{Judged, only_behind, none_behind}
 use Rattle.ds_lex.proofs.Letters.{some_same, none_some, colon_is, label_in_range, letter}
 use Rattle.ds_lex.proofs.Numerals.{digit, sign}
 use Rattle.ds_lex.proofs.Sigils.{local, global, attr, meta, empty_take}

@@ -1,10 +1,10 @@
 -- What is to be shown of a token found, or of why there is none.
-use Rattle.std.proofs.Common.{◌≡◌, ℕ, ◌<◌, ◌≤◌, Bool, true, false, ◌⊎◌, List, [], ◌∷◌, length, take, drop, suc, zero, refl, sym, ap, inl, inr, arith, Ok, Err}
+use Rattle.std.proofs.Common.{◌≡◌, ℕ, ◌<◌, ◌≤◌, ◌⊎◌, List, ◌∷◌, length, take, drop, suc, zero, ap, inl, inr, arith, Ok, Err}
 use Rattle.ds_lex.specs.declared.bytes.ByteClass.{ByteClass}
 use Rattle.ds_lex.specs.declared.token.TokenKind.{TokenKind}
 use Rattle.ds_lex.specs.declared.words.Flaw.TheVariants as flaw
 use Rattle.ds_lex.specs.Bytes.{class_of, is_quote}
-use Rattle.ds_lex.specs.Lexed.{IsSpelling, IsLongest, IsWhole, IsInRange, IsToken}
+use Rattle.ds_lex.specs.Lexed.{IsSpelling, IsLongest, IsWhole, IsInRange}
 use Rattle.ds_lex.specs.Fault.{BeginsNone, IsNoToken}
 use Rattle.ds_lex.specs.Scan.{Scanned}
 use Rattle.ds_lex.proofs.Firsts.{First, is_sigil, is_stray}

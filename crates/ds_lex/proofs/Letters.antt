@@ -1,23 +1,19 @@
 -- What the scanner finds is the token at the front, or there is none.
-use Rattle.std.proofs.Common.{◌≡◌, ℕ, ◌+◌, ◌<◌, ◌≤◌, Bool, true, false, not, ◌&&◌, ◌⊎◌, cond, eqb, List, [], ◌∷◌, ◌++◌, length, take, drop, Option, Some, None, is_some, Ok, Err, suc, zero, refl, sym, ◌∙◌, ap, subst, inl, inr, arith, length-append, append_assoc}
+use Rattle.std.proofs.Common.{◌≡◌, ℕ, ◌<◌, ◌≤◌, Bool, true, false, ◌⊎◌, cond, List, [], ◌∷◌, ◌++◌, length, take, drop, Option, Some, None, Ok, suc, zero, refl, sym, ◌∙◌, ap, subst, inl, inr, arith}
 use Rattle.std.proofs.lemmas.Bool.Decides.{nat_tests}
-use Rattle.std.specs.List.{list_all}
 use Rattle.ds_lex.specs.declared.bytes.ByteClass.{ByteClass}
-use Rattle.ds_lex.specs.declared.bytes.ByteClass.TheVariants.{Blank, Semicolon, Percent, At, Hash, Bang, Quote, Minus, Digit, Letter, Mark, Other}
-use Rattle.ds_lex.specs.declared.bytes.RunOf.TheVariants.{NameBytes, Digits, TextBytes}
+use Rattle.ds_lex.specs.declared.bytes.ByteClass.TheVariants.{Digit, Letter}
+use Rattle.ds_lex.specs.declared.bytes.RunOf.TheVariants.{NameBytes, Digits}
 use Rattle.ds_lex.specs.declared.token.TokenKind.{TokenKind}
-use Rattle.ds_lex.specs.declared.token.TokenKind.TheVariants.{Word, Label, Local, Global, Attr, Meta, Number, Text, CText, Punct, End}
-use Rattle.ds_lex.specs.declared.words.Flaw.TheVariants as flaw
-use Rattle.ds_lex.specs.Bytes.{is_digit, class_of, begins_name, stands_in_name, belongs}
-use Rattle.ds_lex.specs.Number.{decimal, is_small, number_of}
-use Rattle.ds_lex.specs.Lexed.{IsDigits, IsText, IsAnyName, IsMetaName, IsNameInRange, IsInRange, IsWord, goes_on}
-use Rattle.ds_lex.specs.Fault.{BeginsNone}
-use Rattle.ds_lex.specs.Scan.{run_len, closed_len, text_len, ctext_len, starts_name, starts_colon, labelled, worded_by, worded, quoted_by, quoted, integer, numbered, counted_by, counted, signed_by, signed, named_by, unplain, named, attribute_by, attribute, metadata_len, token_of_class, token_at}
-use Rattle.ds_lex.proofs.Runs.{run, run_more, run_none, run_take, run_ended, take_next, has_next, drop_inside, and_parts}
-use Rattle.ds_lex.proofs.Forms.{Forms, NameColon, DigitsColon, digit_class}
-use Rattle.ds_lex.proofs.Texts.{closed_only, closed_colon, closed_is, text_is, ctext_only, ctext_is}
-use Rattle.ds_lex.proofs.Judged.{Only, Judged, only_behind, none_behind}
-use Rattle.ds_lex.proofs.Names.{name_len, digits_len, text_front, name_here, digits_here, digits_some, text_no_name_bytes, no_digits, small_in_range, small_out_of_range}
+use Rattle.ds_lex.specs.declared.token.TokenKind.TheVariants.{Word, Label, CText}
+use Rattle.ds_lex.specs.Bytes.{class_of, stands_in_name, belongs}
+use Rattle.ds_lex.specs.Lexed.{IsInRange}
+use Rattle.ds_lex.specs.Scan.{run_len, text_len, ctext_len, starts_colon, labelled, worded_by, worded}
+use Rattle.ds_lex.proofs.Runs.{run, run_more, run_take, run_ended, take_next, has_next, drop_inside}
+use Rattle.ds_lex.proofs.Forms.{Forms, NameColon, DigitsColon}
+use Rattle.ds_lex.proofs.Texts.{text_is, ctext_only, ctext_is}
+use Rattle.ds_lex.proofs.Judged.{Judged, only_behind}
+use Rattle.ds_lex.proofs.Names.{text_front, no_digits}
 
 -- m is below n, or it is n
 pub less_or_same : (m n : ℕ) (E : Type 0) → m ≤ n → E → (m < n) ⊎ ((m ≡ n) × E)

@@ -13,3 +13,9 @@ pub mod Fronts
 pub mod Agreement
 pub mod Places
 pub mod Lexing
+pub mod Unique
+pub mod Writing
+pub mod Ends
+pub mod Longer
+pub mod Apart
+pub mod Spelled

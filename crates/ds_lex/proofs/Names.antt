@@ -1,15 +1,15 @@
 -- A name, digits or a text at the front of bytes.
-use Rattle.std.proofs.Common.{◌≡◌, ℕ, ◌<◌, ◌≤◌, ◌^◌, Bool, true, false, not, ◌&&◌, ◌⊎◌, cond, ltb, List, [], ◌∷◌, ◌++◌, length, take, drop, Option, Some, None, suc, zero, refl, sym, ◌∙◌, ap, subst, inl, inr, arith}
+use Rattle.std.proofs.Common.{◌≡◌, ℕ, ◌<◌, ◌≤◌, ◌^◌, Bool, true, false, ◌&&◌, ltb, List, [], ◌∷◌, length, take, Some, suc, zero, refl, sym, ◌∙◌, ap, subst, arith}
 use Rattle.std.proofs.lemmas.Bool.Decides.{nat_tests}
 use Rattle.std.specs.List.{list_all}
 use Rattle.ds_lex.specs.declared.bytes.ByteClass.{ByteClass}
 use Rattle.ds_lex.specs.declared.bytes.ByteClass.TheVariants.{Blank, Semicolon, Percent, At, Hash, Bang, Quote, Minus, Digit, Letter, Mark, Other}
-use Rattle.ds_lex.specs.declared.bytes.RunOf.TheVariants.{NameBytes, Digits, TextBytes}
+use Rattle.ds_lex.specs.declared.bytes.RunOf.TheVariants.{NameBytes, Digits}
 use Rattle.ds_lex.specs.Bytes.{is_digit, class_of, begins_name, stands_in_name, belongs}
 use Rattle.ds_lex.specs.Number.{decimal, is_small}
-use Rattle.ds_lex.specs.Lexed.{IsName, IsDigits, IsText, IsAnyName, IsNameInRange}
+use Rattle.ds_lex.specs.Lexed.{IsName, IsDigits, IsText, IsNameInRange}
 use Rattle.ds_lex.specs.Scan.{run_len, text_len, starts_name}
-use Rattle.ds_lex.proofs.Runs.{run, run_more, run_none, run_nil, run_take, and_parts}
+use Rattle.ds_lex.proofs.Runs.{run, run_more, run_none, run_take, and_parts}
 use Rattle.ds_lex.proofs.Forms.{digit_class}
 use Rattle.ds_lex.proofs.Texts.{text_only}
 

@@ -1,17 +1,16 @@
 -- A token that begins with a digit or a sign is the one found, or there is none.
-use Rattle.std.proofs.Common.{◌≡◌, ℕ, ◌<◌, ◌≤◌, Bool, true, false, not, ◌&&◌, ◌⊎◌, cond, eqb, List, [], ◌∷◌, ◌++◌, length, take, drop, is_some, Ok, Err, suc, zero, refl, sym, ◌∙◌, ap, subst, inl, inr, arith}
+use Rattle.std.proofs.Common.{◌≡◌, ℕ, ◌<◌, ◌≤◌, Bool, true, false, not, ◌&&◌, ◌⊎◌, cond, eqb, List, [], ◌∷◌, ◌++◌, length, take, drop, is_some, Ok, Err, suc, refl, sym, ◌∙◌, ap, subst, inl, inr, arith}
 use Rattle.std.proofs.lemmas.Bool.Decides.{nat_tests}
 use Rattle.std.specs.List.{list_all}
-use Rattle.ds_lex.specs.declared.bytes.ByteClass.{ByteClass}
 use Rattle.ds_lex.specs.declared.bytes.ByteClass.TheVariants.{Blank, Semicolon, Percent, At, Hash, Bang, Quote, Minus, Digit, Letter, Mark, Other}
-use Rattle.ds_lex.specs.declared.bytes.RunOf.TheVariants.{NameBytes, Digits}
+use Rattle.ds_lex.specs.declared.bytes.RunOf.TheVariants.{Digits}
 use Rattle.ds_lex.specs.declared.token.TokenKind.{TokenKind}
 use Rattle.ds_lex.specs.declared.token.TokenKind.TheVariants.{Label, Number}
 use Rattle.ds_lex.specs.declared.words.Flaw.TheVariants as flaw
 use Rattle.ds_lex.specs.Bytes.{is_blank, is_digit, is_letter, is_mark, class_of, belongs}
 use Rattle.ds_lex.specs.Number.{is_small, number_of}
-use Rattle.ds_lex.specs.Lexed.{IsDigits, IsNameInRange, IsInRange, goes_on}
-use Rattle.ds_lex.specs.Scan.{run_len, starts_colon, integer, numbered, counted_by, counted, signed_by, signed}
+use Rattle.ds_lex.specs.Lexed.{IsDigits, IsNameInRange, goes_on}
+use Rattle.ds_lex.specs.Scan.{run_len, starts_colon, integer, numbered, counted_by, counted, signed}
 use Rattle.ds_lex.proofs.Runs.{run, run_more, run_take, take_next, has_next}
 use Rattle.ds_lex.proofs.Firsts.{is_stray}
 use Rattle.ds_lex.proofs.Forms.{Forms}

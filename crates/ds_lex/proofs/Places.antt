@@ -23,7 +23,7 @@ parts xs i j h =
 length_part : (xs : List ℕ) (i j : ℕ) → i ≤ j → j ≤ length xs → length (slice_range xs i j) ≡ j - i
 length_part xs i j h l = length-take-le (j - i) (drop i xs) (omega (arith, length-drop i xs))
 
-part_at : (xs : List ℕ) (i n : ℕ) → slice_range xs i (i + n) ≡ take n (drop i xs)
+pub part_at : (xs : List ℕ) (i n : ℕ) → slice_range xs i (i + n) ≡ take n (drop i xs)
 part_at xs i n = let e : i + n - i ≡ n = omega arith in ap (λ (m : ℕ). take m (drop i xs)) e
 
 -- where the blanks and the comments behind `at` bytes end

@@ -1,23 +1,22 @@
 -- A token that begins with %, @, #, ! or a quote is the one found, or there is none.
-use Rattle.std.proofs.Common.{◌≡◌, ℕ, ◌<◌, ◌≤◌, Bool, true, false, ◌⊎◌, cond, eqb, List, [], ◌∷◌, ◌++◌, length, take, drop, Option, Some, None, Ok, Err, suc, zero, refl, sym, ◌∙◌, ap, subst, inl, inr, arith}
+use Rattle.std.proofs.Common.{◌≡◌, ℕ, ◌<◌, ◌≤◌, Bool, true, false, ◌⊎◌, cond, eqb, List, [], ◌∷◌, length, take, Option, Some, None, Ok, Err, suc, zero, refl, ap, subst, inl, inr, arith}
 use Rattle.std.proofs.lemmas.Bool.Decides.{nat_tests}
-use Rattle.ds_lex.specs.declared.bytes.ByteClass.{ByteClass}
-use Rattle.ds_lex.specs.declared.bytes.ByteClass.TheVariants.{Percent, At, Hash, Bang, Quote, Digit}
-use Rattle.ds_lex.specs.declared.bytes.RunOf.TheVariants.{NameBytes, Digits, TextBytes}
+use Rattle.ds_lex.specs.declared.bytes.ByteClass.TheVariants.{Percent, At, Hash, Bang}
+use Rattle.ds_lex.specs.declared.bytes.RunOf.TheVariants.{NameBytes, Digits}
 use Rattle.ds_lex.specs.declared.token.TokenKind.{TokenKind}
-use Rattle.ds_lex.specs.declared.token.TokenKind.TheVariants.{Label, Local, Global, Attr, Meta, Text}
+use Rattle.ds_lex.specs.declared.token.TokenKind.TheVariants.{Local, Global, Attr, Meta}
 use Rattle.ds_lex.specs.declared.words.Flaw.TheVariants as flaw
-use Rattle.ds_lex.specs.Bytes.{class_of, begins_name}
+use Rattle.ds_lex.specs.Bytes.{class_of}
 use Rattle.ds_lex.specs.Number.{is_small}
-use Rattle.ds_lex.specs.Lexed.{IsDigits, IsText, IsAnyName, IsMetaName, IsNameInRange, IsInRange}
+use Rattle.ds_lex.specs.Lexed.{IsDigits, IsAnyName, IsMetaName, IsNameInRange}
 use Rattle.ds_lex.specs.Fault.{BeginsNone}
-use Rattle.ds_lex.specs.Scan.{run_len, text_len, starts_name, numbered, named_by, unplain, named, attribute_by, attribute, metadata_len}
+use Rattle.ds_lex.specs.Scan.{run_len, text_len, starts_name, numbered, named_by, unplain, named, attribute, metadata_len}
 use Rattle.ds_lex.proofs.Runs.{run}
 use Rattle.ds_lex.proofs.Firsts.{First, is_sigil}
 use Rattle.ds_lex.proofs.Forms.{Forms}
 use Rattle.ds_lex.proofs.Texts.{text_is}
 use Rattle.ds_lex.proofs.Judged.{Only, Judged, only_behind, none_behind}
-use Rattle.ds_lex.proofs.Names.{name_len, digits_len, text_front, name_here, digits_here, no_digits, small_in_range, small_out_of_range}
+use Rattle.ds_lex.proofs.Names.{name_len, digits_len, text_front, name_here, digits_here, small_in_range, small_out_of_range}
 use Rattle.ds_lex.proofs.Letters.{less_or_same, some_same, none_some, tails}
 
 -- where the first i bytes are a name of any kind, that is this one

@@ -1,14 +1,13 @@
 -- A text at the front of bytes.
-use Rattle.std.proofs.Common.{◌≡◌, ℕ, ◌+◌, ◌<◌, ◌≤◌, Bool, true, false, not, ◌&&◌, cond, eqb, ltb, List, [], ◌∷◌, ◌++◌, length, take, drop, Option, Some, None, option_map, suc, zero, refl, sym, ◌∙◌, ap, subst, arith, length-drop, length-append}
+use Rattle.std.proofs.Common.{◌≡◌, ℕ, ◌+◌, ◌<◌, ◌≤◌, Bool, true, false, cond, eqb, ltb, List, [], ◌∷◌, ◌++◌, length, take, drop, Option, Some, None, option_map, suc, zero, refl, ◌∙◌, ap, subst, arith, length-drop, length-append}
 use Rattle.std.proofs.lemmas.Bool.Decides.{nat_tests}
 use Rattle.std.specs.List.{list_all}
-use Rattle.ds_lex.specs.declared.bytes.ByteClass.{ByteClass}
-use Rattle.ds_lex.specs.declared.bytes.ByteClass.TheVariants.{Blank, Semicolon, Percent, At, Hash, Bang, Quote, Minus, Digit, Letter, Mark, Other}
-use Rattle.ds_lex.specs.declared.bytes.RunOf.TheVariants.{NameBytes, Digits, TextBytes}
+use Rattle.ds_lex.specs.declared.bytes.ByteClass.TheVariants.{Quote}
+use Rattle.ds_lex.specs.declared.bytes.RunOf.TheVariants.{TextBytes}
 use Rattle.ds_lex.specs.Bytes.{class_of, belongs, is_quote}
-use Rattle.ds_lex.specs.Lexed.{IsClosed, IsText, IsCText}
+use Rattle.ds_lex.specs.Lexed.{IsClosed, IsText}
 use Rattle.ds_lex.specs.Scan.{run_len, closed_len, text_len, ctext_len, starts_colon}
-use Rattle.ds_lex.proofs.Runs.{run, run_ended, take_next, first_belongs, has_next}
+use Rattle.ds_lex.proofs.Runs.{run, run_ended, take_next, first_belongs}
 use Rattle.ds_lex.proofs.Firsts.{quote_is}
 use Rattle.ds_lex.proofs.Forms.{TextColon}
 

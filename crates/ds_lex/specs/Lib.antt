@@ -3,3 +3,4 @@ pub mod Number
 pub mod Lexed
 pub mod Fault
 pub mod Scan
+pub mod Written

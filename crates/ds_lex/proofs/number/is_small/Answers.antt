@@ -1,4 +1,4 @@
-use Rattle.std.proofs.Common.{sym, ◌∙◌}
+use Rattle.std.proofs.Common.{sym}
 use Rattle.ds_lex.proofs.Decimals.{small_some, small_none}
 use Rattle.ds_lex.proofs.number.is_small.Goals as goal
 

@@ -1,5 +1,5 @@
-use Rattle.std.proofs.Common.{◌≡◌, ◌⊎◌, Bool, cond, List, ◌∷◌, [], ◌++◌, Result, Ok, Err, sym, ◌∙◌, ap, subst, inl, inr, arith}
-use Rattle.std.specs.Prelude.{MatchResult, IfErr}
+use Rattle.std.proofs.Common.{◌≡◌, ◌⊎◌, Bool, cond, List, ◌∷◌, [], ◌++◌, Result, Err, sym, ◌∙◌, ap, subst, inl, inr, arith}
+use Rattle.std.specs.Prelude.{IfErr}
 use Rattle.ds_lex.specs.declared.token.Token.{Token}
 use Rattle.ds_lex.specs.declared.fault.LexFault.{LexFault}
 use Rattle.ds_lex.specs.declared.fault.LexFault.TheVariants.{Memory}

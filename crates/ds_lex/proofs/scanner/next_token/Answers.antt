@@ -1,4 +1,4 @@
-use Rattle.std.proofs.Common.{◌≡◌, ℕ, ◌+◌, false, length, drop, List, [], Ok, Err, sym, ◌∙◌, ap, subst, arith, length-drop}
+use Rattle.std.proofs.Common.{ℕ, ◌+◌, false, length, drop, [], Ok, Err, sym, ◌∙◌, ap, subst, arith}
 use Rattle.std.proofs.lemmas.List.{take_rest}
 use Rattle.ds_lex.specs.declared.token.Token.{Token}
 use Rattle.ds_lex.specs.declared.fault.LexFault.{LexFault}
