@@ -8,3 +8,4 @@ pub mod Ends
 pub mod Laws
 pub mod Runs
 pub mod Parsed
+pub mod Inside

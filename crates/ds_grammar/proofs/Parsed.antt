@@ -1,17 +1,17 @@
 -- The answer of a parser is what the tokens say.
-use Rattle.std.proofs.Common.{◌≡◌, ℕ, List, [], length, refl, ap, ◌∙◌, inl, inr, arith}
-use Rattle.std.proofs.lemmas.List.{length-append}
-use Rattle.std.specs.Prelude.{Option, Some, None, Ok, Err}
+use Rattle.std.proofs.Common.{◌≡◌, ℕ, List, [], ◌∷◌, ◌++◌, length, refl, sym, ap, ◌∙◌, subst, inl, inr, arith}
+use Rattle.std.proofs.lemmas.List.{length-append, append-nil, append_assoc}
+use Rattle.std.specs.Prelude.{Option, Some, None, Ok, Err, ◌⊎◌}
 use Rattle.ds_grammar.specs.declared.fault.Breach.{Breach}
 use Rattle.ds_grammar.specs.declared.fault.ParseFault.{ParseFault}
 use Rattle.ds_grammar.specs.Sort.{Lexeme, Sort, TypeOf}
 use Rattle.ds_grammar.specs.Grammar.{Mark, Grammar}
-use Rattle.ds_grammar.specs.Form.{Form, Front, DeadEnd}
-use Rattle.ds_grammar.specs.Fault.{AreWithin, IsWorst, IsFault, dead_fault}
-use Rattle.ds_grammar.specs.Reading.{Reading, start, value_at}
-use Rattle.ds_grammar.specs.Parsed.{Spells, Refuses, settled_by, answer, IsAnswer}
-use Rattle.ds_grammar.specs.Laws.{Answers, AnswersAreExact, SpelledIsAnswered}
-use Rattle.ds_grammar.proofs.Laws.{reading_exact, forms_read}
+use Rattle.ds_grammar.specs.Form.{Form, Front, IsFront, DeadEnd}
+use Rattle.ds_grammar.specs.Fault.{AreWithin, IsBreachIn, IsLeastBreach, IsWorst, IsFault, dead_fault}
+use Rattle.ds_grammar.specs.Reading.{Place, Reading, start, value_at}
+use Rattle.ds_grammar.specs.Parsed.{Spells, Refuses, settled_by, answer, IsAnswer, SpellWhole, RefuseWhole, ended_by, whole_by, whole_answer, IsWholeAnswer}
+use Rattle.ds_grammar.specs.Laws.{Answers, AnswersAreExact, SpelledIsAnswered, WholeAnswersAreExact, WholesAreAnswered, WholesAreNotRefused}
+use Rattle.ds_grammar.proofs.Laws.{reading_exact, forms_read, prefixes, dead_ends_unique, marks_unique}
 
 settled_is : {a : Sort} (g : Grammar a) (ts : List Lexeme) (end : ℕ) (front rest : List Lexeme) (v : TypeOf a) (ms : List Mark) (o : Option Breach)
     → DeadEnd g ts front rest → Form g front [] v ms → IsWorst ms o → IsAnswer g ts end (settled_by o v (length rest))
@@ -45,3 +45,71 @@ spelled_answered a g ts end v n (front, rest, ms, d, h, w, count) =
       ap answer r.1 ∙ ap (λ o. settled_by o v (length r.0.left)) (none_worst ms r.0.worst w r.3),
       let e = ap length d.whole in let l = ap length r.2 in omega (arith, e, l, count, length-append front rest),
     )
+
+-- A WHOLE TEXT
+
+-- behind a dead end no tokens have the form
+past_dead : {a : Sort} (g : Grammar a) (ts front : List Lexeme) (t : Lexeme) (rest : List Lexeme) → DeadEnd g ts front (t ∷ rest) → (v : TypeOf a) (ks : List Mark) → Form g ts [] v ks → ⊥
+past_dead {a} g ts front t rest d v ks h =
+    d.dead (prefixes a g (front ++ t ∷ []) rest (subst (IsFront g) (d.whole ∙ sym (append_assoc front (t ∷ []) rest)) (ks, inr (v, h))))
+
+-- tokens of which none is left behind these are these
+none_left : (ts front rest : List Lexeme) → ts ≡ front ++ rest → rest ≡ [] → front ≡ ts
+none_left ts front rest e n = sym (append-nil front) ∙ ap (λ r. front ++ r) (sym n) ∙ sym e
+
+whole_is : {a : Sort} (g : Grammar a) (ts : List Lexeme) (end : ℕ) (front rest : List Lexeme) (v : TypeOf a) (ms : List Mark) (o : Option Breach)
+    → DeadEnd g ts front rest → Form g front [] v ms → IsWorst ms o → IsWholeAnswer g ts end (whole_by o end v rest)
+unfolding SpellWhole RefuseWhole
+whole_is g ts end front [] v ms None d h w = (ms, subst (λ us. Form g us [] v ms) (none_left ts front [] d.whole refl) h, w)
+whole_is g ts end front (t ∷ rest) v ms None d h w = (front, t ∷ rest, ms, d, inr (v, h), inr (w, past_dead g ts front t rest d, refl))
+whole_is g ts end front rest v ms (Some b) d h w = (front, rest, ms, d, inr (v, h), inl (b, w, refl))
+
+-- where the tokens before the dead end have not the form, all have not
+no_whole : {a : Sort} (g : Grammar a) (ts front rest : List Lexeme) → DeadEnd g ts front rest → ((v : TypeOf a) (ks : List Mark) → Form g front [] v ks → ⊥)
+    → (v : TypeOf a) (ks : List Mark) → Form g ts [] v ks → ⊥
+no_whole g ts front [] d none v ks h = none v ks (subst (λ us. Form g us [] v ks) (sym (none_left ts front [] d.whole refl)) h)
+no_whole g ts front (t ∷ rest) d none v ks h = past_dead g ts front t rest d v ks h
+
+whole_refused : {a : Sort} (g : Grammar a) (ts : List Lexeme) (end : ℕ) (front rest : List Lexeme) (ms : List Mark) (f : ParseFault)
+    → DeadEnd g ts front rest → Front g front ms → ((v : TypeOf a) (ks : List Mark) → Form g front [] v ks → ⊥) → IsFault ms (dead_fault end rest) f → RefuseWhole g ts end f
+unfolding RefuseWhole
+whole_refused g ts end front rest ms f d h none (inl (b, least, e)) = (front, rest, ms, d, h, inl (b, least, e))
+whole_refused g ts end front rest ms f d h none (inr (w, e)) = (front, rest, ms, d, h, inr (w, no_whole g ts front rest d none, e))
+
+whole_answer_is : {a : Sort} (g : Grammar a) (ts : List Lexeme) (end : ℕ) (r : Reading (TypeOf a)) → Answers g ts end r → IsWholeAnswer g ts end (whole_answer r)
+whole_answer_is g ts end (Ok (v, p)) (front, ms, d, h, w, e) =
+    subst (λ n. IsWholeAnswer g ts end (whole_by p.worst n v p.left)) (sym e) (whole_is g ts end front p.left v ms p.worst d h w)
+whole_answer_is g ts end (Err f) (front, rest, ms, d, h, none, x) = whole_refused g ts end front rest ms f d h none x
+
+pub whole_exact : WholeAnswersAreExact
+whole_exact a g ts end = whole_answer_is g ts end (value_at g (start ts end)) (reading_exact a g ts end)
+
+-- tokens that have the form are followed by the end of the text
+end_is_dead : {a : Sort} (g : Grammar a) (ts : List Lexeme) (v : TypeOf a) (ms : List Mark) → Form g ts [] v ms → DeadEnd g ts ts []
+end_is_dead {a} g ts v ms h = record {
+  whole = sym (append-nil ts);
+  fronts = λ us vs e. prefixes a g us vs (subst (IsFront g) e (ms, inr (v, h)));
+  dead = tt;
+}
+
+whole_read : {A : Type 0} (v : A) (p : Place) → p.worst ≡ None → p.left ≡ [] → whole_answer (Ok (v, p)) ≡ Ok v
+whole_read v p w l = ap (λ o. whole_by o p.end v p.left) w ∙ ap (λ ts. ended_by p.end v ts) l
+
+pub wholes_answered : WholesAreAnswered
+unfolding SpellWhole
+wholes_answered a g ts end v (ms, h, w) =
+    let r = forms_read a g ts end ts [] v ms (end_is_dead g ts v ms h) h in
+    ap whole_answer r.1 ∙ whole_read v r.0 (none_worst ms r.0.worst w r.3) r.2
+
+-- marks that all are within have no least breach
+no_breach : {a : Sort} (g : Grammar a) (ts front rest : List Lexeme) (v : TypeOf a) (ms ks : List Mark) (b : Breach) → DeadEnd g ts front rest → Form g ts [] v ms → AreWithin ms
+    → Front g front ks → IsLeastBreach ks b → ⊥
+no_breach {a} g ts front rest v ms ks b d h w x least =
+    let same = dead_ends_unique a g ts front rest ts [] d (end_is_dead g ts v ms h) in
+    let marks = marks_unique a g ts ks ms (subst (λ us. Front g us ks) same.0 x) (inr (v, h)) in
+    w b (subst (λ ls. IsBreachIn ls b) marks least.made)
+
+pub not_refused : WholesAreNotRefused
+unfolding SpellWhole RefuseWhole
+not_refused a g ts end v f (ms, h, w) (front, rest, ks, d, x, inl (b, least, e)) = no_breach g ts front rest v ms ks b d h w x least
+not_refused a g ts end v f (ms, h, w) (front, rest, ks, d, x, inr (within, none, e)) = none v ms h

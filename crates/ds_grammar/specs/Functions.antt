@@ -1,5 +1,5 @@
 -- The forms of functions, and of the whole module.
-use Rattle.std.specs.Prelude.{ℕ, ◌+◌, ◌-◌, ◌%◌, ◌^◌, Bool, true, false, not, ◌&&◌, nat_lt, nat_le, if◌then◌else◌, List, [], ◌∷◌, ◌++◌, take, length, Option, Some, None, is_some, option_map, codes}
+use Rattle.std.specs.Prelude.{ℕ, ◌+◌, ◌-◌, ◌%◌, ◌^◌, min, Bool, true, false, not, ◌&&◌, nat_lt, nat_le, if◌then◌else◌, List, [], ◌∷◌, ◌++◌, take, length, Option, Some, None, is_some, option_map, codes}
 use Rattle.std.specs.Str.{bytes_eq}
 use Rattle.ds_lex.specs.declared.token.TokenKind.{TokenKind}
 use Rattle.ds_lex.specs.declared.token.TokenKind.TheVariants as kind
@@ -44,9 +44,13 @@ abbrev pub written_mark : ℕ → Name → ℕ → Mark
 written_mark at (name.Number n) counter = range_mark at (nat_le counter n)
 written_mark at (name.Text bytes) counter = range_mark at true
 
+-- the counter behind this number; a counter stands still at 2 ^ 64 - 1, which takes more names than a text can have
+abbrev pub risen : ℕ → ℕ
+risen n = min (n + 1) (2 ^ 64 - 1)
+
 -- the counter behind a name that is written
 abbrev pub counted : Name → ℕ → ℕ
-counted (name.Number n) counter = n + 1
+counted (name.Number n) counter = risen n
 counted (name.Text bytes) counter = counter
 
 -- the name that a number is
@@ -72,7 +76,7 @@ placed_name k bytes at = option_map (λ n. (n, at)) (local_name k bytes)
 -- the parameters with one more. Behind a name that is not written stands the mark that its number takes once the parameter ends.
 abbrev pub with_parameter : Params → Scalar × ℕ → Option (Name × ℕ) → Params
 with_parameter ps s (Some n) = record { params = ps.params ++ (record { name = n.0; ty = s.0 }) ∷ []; counter = counted n.0 ps.counter; pending = [] }
-with_parameter ps s None = record { params = ps.params ++ (record { name = numbered ps.counter; ty = s.0 }) ∷ []; counter = ps.counter + 1; pending = taken_mark s.1 ps.counter ∷ [] }
+with_parameter ps s None = record { params = ps.params ++ (record { name = numbered ps.counter; ty = s.0 }) ∷ []; counter = risen ps.counter; pending = taken_mark s.1 ps.counter ∷ [] }
 
 -- the marks of the name, where it is written
 abbrev pub name_marks : Params → Option (Name × ℕ) → List Mark
@@ -102,10 +106,7 @@ parameters = do
   _ ← punct ")"
   marked_by ps.pending (Done ps)
 
--- the parameters of a declaration, whose names are dropped: the numbers from n on
-abbrev pub renumbered : ℕ → List Param → List Param
-renumbered n [] = []
-renumbered n (p ∷ ps) = (record { name = numbered n; ty = p.ty }) ∷ renumbered (n + 1) ps
+-- THE PARAMETERS OF A DECLARATION, whose names are dropped: they are the numbers from 0 on
 
 -- one parameter of a declaration more
 abbrev pub declared_more : List Param → Option (Scalar × ℕ) → Grammar (list_of a_param)
@@ -185,7 +186,7 @@ opened None counter = record { name = numbered counter; code = [] }
 -- the counter behind that
 abbrev pub opened_counter : Option Block → ℕ → ℕ
 opened_counter (Some b) counter = counter
-opened_counter None counter = counter + 1
+opened_counter None counter = risen counter
 
 -- the marks of that, at the first token of the block
 abbrev pub opened_marks : Option Block → ℕ → ℕ → List Mark
@@ -206,6 +207,10 @@ with_instruction b counter i =
 abbrev pub unnamed : ℕ → Op → Instr
 unnamed n o = record { result = if has_result o then Some (numbered n) else None; op = o }
 
+-- the counter behind that
+abbrev pub unnamed_counter : ℕ → Op → ℕ
+unnamed_counter n o = if has_result o then risen n else n
+
 -- the rest of a line of a body
 abbrev pub line_rest : Body → Begin × ℕ → Grammar a_body
 line_rest b (begin.Label n, at) =
@@ -219,7 +224,7 @@ line_rest b (begin.Named n, at) =
 line_rest b (begin.Head h, at) =
     marked_by (opened_marks b.open_block at b.counter) (do
       o ← taking_row (taken_mark at (opened_counter b.open_block b.counter) ∷ []) h
-      Done (with_instruction b (opened_counter b.open_block b.counter + (if has_result o then 1 else 0)) (unnamed (opened_counter b.open_block b.counter) o)))
+      Done (with_instruction b (unnamed_counter (opened_counter b.open_block b.counter) o) (unnamed (opened_counter b.open_block b.counter) o)))
 
 -- block block*, where names are counted from this number on
 unfoldable pub body_from : ℕ → Grammar a_body
@@ -293,6 +298,12 @@ text_line = do
 abbrev pub is_target_word : TokenKind → List ℕ → Bool
 is_target_word k bytes = if is_word (codes "datalayout") k bytes then true else is_word (codes "triple") k bytes
 
+-- datalayout or triple, = Text behind target
+unfoldable pub target_line : Grammar no_value
+target_line = do
+  _ ← One {a = no_value} (λ t. fact (is_target_word t.kind t.bytes))
+  text_line
+
 -- { balanced }
 unfoldable pub group : Grammar no_value
 group = do
@@ -304,11 +315,15 @@ abbrev pub is_bang : TokenKind → List ℕ → Bool
 is_bang kind.Meta bytes = bytes_eq bytes (codes "!")
 is_bang other bytes = false
 
+-- distinct, which need not be written
+unfoldable pub optional_distinct : Grammar (maybe no_value)
+optional_distinct = optional no_value (λ t. fact (is_word (codes "distinct") t.kind t.bytes)) (λ u. Done tt)
+
 -- = distinct? ! { balanced } behind META
 unfoldable pub metadata_line : Grammar no_value
 metadata_line = do
   _ ← punct "="
-  _ ← optional {b = no_value} no_value (λ t. fact (is_word (codes "distinct") t.kind t.bytes)) (λ u. Done tt)
+  _ ← optional_distinct
   _ ← One {a = no_value} (λ t. fact (is_bang t.kind t.bytes))
   group
 
@@ -340,10 +355,7 @@ entity_of other bytes = None
 -- the module with one entity more
 abbrev pub entity_rest : Module → Entity → Grammar a_module
 entity_rest m entity.SourceFilename = Then text_line (λ u. Done m)
-entity_rest m entity.Target = do
-  _ ← One {a = no_value} (λ t. fact (is_target_word t.kind t.bytes))
-  _ ← text_line
-  Done m
+entity_rest m entity.Target = Then target_line (λ u. Done m)
 entity_rest m (entity.Struct n) = do
   s ← struct_line n
   Done (record { structs = m.structs ++ s ∷ []; globals = m.globals; functions = m.functions })

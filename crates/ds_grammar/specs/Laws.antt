@@ -1,11 +1,14 @@
 -- The statements of the laws about grammars.
-use Rattle.std.specs.Prelude.{◌≡◌, ℕ, List, [], ◌++◌, Option, Ok, Err, ◌≤◌, length, Some, None, ◌+◌}
+use Rattle.std.specs.Prelude.{◌≡◌, ℕ, List, [], ◌++◌, Option, Ok, Err, ◌≤◌, length, take, drop, Some, None, ◌+◌}
 use Rattle.ds_grammar.specs.declared.fault.ParseFault.{ParseFault}
 use Rattle.ds_grammar.specs.Sort.{Lexeme, Sort, TypeOf}
 use Rattle.ds_grammar.specs.Grammar.{Mark, Grammar, Loop, optional}
 use Rattle.ds_grammar.specs.Form.{Form, Front, IsFront, DeadEnd}
 use Rattle.ds_grammar.specs.Fault.{dead_fault, IsFault, IsWorst}
-use Rattle.ds_grammar.specs.Parsed.{Spells, answer, IsAnswer}
+use Rattle.ds_grammar.specs.Parsed.{Spells, answer, IsAnswer, SpellWhole, RefuseWhole, whole_answer, IsWholeAnswer}
+use Rattle.ds_grammar.specs.Lexemes.{AreInside}
+use Rattle.ds_lex.specs.declared.token.Token.{Token}
+use Rattle.ds_lex.specs.Lexed.{Lexed}
 use Rattle.ds_grammar.specs.Reading.{Place, start, Reading, first_value, optional_at, value_at, past}
 
 -- tokens have at most one value and one list of marks
@@ -77,3 +80,19 @@ AnswersAreExact = (a : Sort) (g : Grammar a) (ts : List Lexeme) (end : ℕ) → 
 -- tokens that spell a value are answered with it
 abbrev pub SpelledIsAnswered : Type 0
 SpelledIsAnswered = (a : Sort) (g : Grammar a) (ts : List Lexeme) (end : ℕ) (v : TypeOf a) (n : ℕ) → Spells g ts v n → (left : ℕ) × (answer (value_at g (start ts end)) ≡ Ok (v, left)) × (n + left ≡ length ts)
+
+-- the answer to what is read of a whole text is what its tokens say
+abbrev pub WholeAnswersAreExact : Type 0
+WholeAnswersAreExact = (a : Sort) (g : Grammar a) (ts : List Lexeme) (end : ℕ) → IsWholeAnswer g ts end (whole_answer (value_at g (start ts end)))
+
+-- tokens that spell a value as a whole are answered with it
+abbrev pub WholesAreAnswered : Type 0
+WholesAreAnswered = (a : Sort) (g : Grammar a) (ts : List Lexeme) (end : ℕ) (v : TypeOf a) → SpellWhole g ts v → whole_answer (value_at g (start ts end)) ≡ Ok v
+
+-- the tokens of a text lie in it, from each place on as many as one likes
+abbrev pub TokensLieInside : Type 0
+TokensLieInside = (text : List ℕ) (ts : List Token) → Lexed text ts → (n at : ℕ) → AreInside text (take n (drop at ts))
+
+-- tokens that spell a value as a whole are not refused
+abbrev pub WholesAreNotRefused : Type 0
+WholesAreNotRefused = (a : Sort) (g : Grammar a) (ts : List Lexeme) (end : ℕ) (v : TypeOf a) (f : ParseFault) → SpellWhole g ts v → RefuseWhole g ts end f → ⊥

@@ -1,5 +1,5 @@
 -- What a parser of one grammar answers, which is the contract of the parsers.
-use Rattle.std.specs.Prelude.{◌≡◌, ℕ, ◌+◌, ◌⊎◌, List, [], length, Option, Some, None, Result, Ok, Err}
+use Rattle.std.specs.Prelude.{◌≡◌, ℕ, ◌+◌, ◌⊎◌, List, [], ◌∷◌, length, Option, Some, None, Result, Ok, Err}
 use Rattle.ds_grammar.specs.declared.fault.Breach.{Breach}
 use Rattle.ds_grammar.specs.declared.fault.ParseFault.{ParseFault}
 use Rattle.ds_grammar.specs.declared.fault.ParseFault.TheVariants as fault
@@ -39,6 +39,40 @@ IsAnswer {a} g ts end (Ok (v, left)) = (n : ℕ) × Spells g ts v n × (n + left
 IsAnswer g ts end (Err f) = Refuses g ts end f
 
 -- code settles what was read, or there was not enough memory
-abbrev pub Settles : {A : Type 0} → Result (A × ℕ) ParseFault → Result (A × ℕ) ParseFault → Type 0
+abbrev pub Settles : {A : Type 0} → Result A ParseFault → Result A ParseFault → Type 0
 Settles (Ok x) a = a ≡ Ok x
 Settles (Err f) a = (f ≡ fault.Memory) ⊎ (a ≡ Err f)
+
+-- A WHOLE TEXT: nothing stands behind its tokens, and its end is a dead end too.
+
+-- all tokens have the form and this value, and nothing in them is out of its bound
+unfoldable pub SpellWhole : {a : Sort} → Grammar a → List Lexeme → TypeOf a → Type 0
+SpellWhole g ts v = (ms : List Mark) × Form g ts [] v ms × AreWithin ms
+
+-- All tokens of a text that ends at `end` are refused with this fault: by the marks of the tokens before the first dead end it is that of the
+-- least breach; where none is made all tokens have not the form, and it is that of the dead end.
+unfoldable pub RefuseWhole : {a : Sort} → Grammar a → List Lexeme → ℕ → ParseFault → Type 0
+RefuseWhole {a} g ts end f =
+    (front : List Lexeme) × (rest : List Lexeme) × (ms : List Mark) × DeadEnd g ts front rest × Front g front ms
+    × (((b : Breach) × IsLeastBreach ms b × (f ≡ breach_fault b))
+    ⊎ (AreWithin ms × ((v : TypeOf a) (ks : List Mark) → Form g ts [] v ks → ⊥) × (f ≡ dead_fault end rest)))
+
+-- a value where no token is left, or the fault of the first that is
+abbrev pub ended_by : {A : Type 0} → ℕ → A → List Lexeme → Result A ParseFault
+ended_by end v [] = Ok v
+ended_by end v (t ∷ ts) = Err (dead_fault end (t ∷ ts))
+
+-- the same behind the least breach, which comes first
+abbrev pub whole_by : {A : Type 0} → Option Breach → ℕ → A → List Lexeme → Result A ParseFault
+whole_by None end v left = ended_by end v left
+whole_by (Some b) end v left = Err (breach_fault b)
+
+-- the answer to what was read of a whole text
+abbrev pub whole_answer : {A : Type 0} → Reading A → Result A ParseFault
+whole_answer (Ok (v, p)) = whole_by p.worst p.end v p.left
+whole_answer (Err f) = Err f
+
+-- the answer is what all tokens say
+abbrev pub IsWholeAnswer : {a : Sort} → Grammar a → List Lexeme → ℕ → Result (TypeOf a) ParseFault → Type 0
+IsWholeAnswer g ts end (Ok v) = SpellWhole g ts v
+IsWholeAnswer g ts end (Err f) = RefuseWhole g ts end f

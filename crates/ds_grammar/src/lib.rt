@@ -3,7 +3,7 @@
 //! A caller calls the function and uses what it ensures. The laws speak of every grammar.
 #![tactic(auto)]
 
-ghost use Rattle.ds_grammar.specs.Laws.{FormsAreUnique, MarksAreUnique, PrefixesAreFronts, DeadEndsExist, DeadEndsAreUnique, ReadingIsExact, FormsAreRead, RunsTakeItems, RunsEnd, RunsStop, OptionalsAreRead, ReadingsTakeTokens, AnswersAreExact, SpelledIsAnswered};
+ghost use Rattle.ds_grammar.specs.Laws.{FormsAreUnique, MarksAreUnique, PrefixesAreFronts, DeadEndsExist, DeadEndsAreUnique, ReadingIsExact, FormsAreRead, RunsTakeItems, RunsEnd, RunsStop, OptionalsAreRead, ReadingsTakeTokens, AnswersAreExact, SpelledIsAnswered, TokensLieInside, WholeAnswersAreExact, WholesAreAnswered, WholesAreNotRefused};
 
 mod fault;
 mod item;
@@ -67,4 +67,16 @@ pub fn readings_take_tokens()
 pub fn answers_are_exact()
     ensures exact { AnswersAreExact }
     ensures spelled { SpelledIsAnswered }
+{}
+
+/// The answer to what is read of a whole text is what its tokens say, where a breach is a fault and so is a token that is left.
+pub fn whole_answers_are_exact()
+    ensures exact { WholeAnswersAreExact }
+    ensures spelled { WholesAreAnswered }
+    ensures refused { WholesAreNotRefused }
+{}
+
+/// The tokens of a text lie in it.
+pub fn tokens_lie_inside()
+    ensures { TokensLieInside }
 {}

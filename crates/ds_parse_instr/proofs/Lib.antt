@@ -1,4 +1,3 @@
-pub mod Inside
 pub mod Parsing
 pub mod Taken
 pub mod Cases

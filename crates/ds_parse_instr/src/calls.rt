@@ -76,7 +76,7 @@ fn argument_rest<'a>(
 
 /// Arguments with commas between them, maybe none.
 #[tactic(auto, unfolding(ds_grammar::specs::Instructions::arguments_from))]
-fn arguments<'a>(alloc: Global, rest: Rest<'a>) -> Result<(Ops<Operand>, Rest<'a>), ParseFault>
+pub fn arguments<'a>(alloc: Global, rest: Rest<'a>) -> Result<(Ops<Operand>, Rest<'a>), ParseFault>
     ensures { Gives result (value_at instructions.arguments rest.entry) }
 {
     runs_go_on();

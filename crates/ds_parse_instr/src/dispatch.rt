@@ -83,7 +83,7 @@ fn ignored_head(kind: TokenKind, bytes: &[u8]) -> Option<Head>
 }
 
 /// What a token begins.
-fn head_of(named: bool, kind: TokenKind, bytes: &[u8]) -> Option<Head>
+pub fn head_of(named: bool, kind: TokenKind, bytes: &[u8]) -> Option<Head>
     ensures { result ≡ instructions.head_of named kind bytes.now }
 {
     match kind {
@@ -112,7 +112,7 @@ fn ignored_call<'a>(
 }
 
 /// The row that begins so, behind the name of a result or not.
-fn row_of<'a>(
+pub fn row_of<'a>(
     alloc: Global,
     named: bool,
     head: Head,

@@ -9,7 +9,7 @@ ghost use Rattle.ds_grammar.specs.Instructions as instructions;
 
 use crate::dispatch::instruction;
 use ds_ast::Instr;
-use ds_grammar::{ParseFault, answers_are_exact};
+use ds_grammar::{ParseFault, answers_are_exact, tokens_lie_inside};
 use ds_lex::Tokens;
 use ds_reader::Rest;
 use std::alloc::Global;
@@ -35,6 +35,7 @@ pub fn parse_instr(
     ensures kept { OnErr result (at.new ≡ at.old) }
 {
     answers_are_exact();
+    tokens_lie_inside();
     let all = tokens.as_slice();
     let end = all.len() - 1;
     let (instr, left) = whole_instr(alloc, Rest::new(text, &all[*at..end]))?;

@@ -12,15 +12,18 @@ mod texts;
 mod types;
 mod words;
 
-pub use literals::{fits_type, kept, range_mark};
+pub use arrays::Arrays;
+pub use literals::{fits_type, kept, name_of, range_mark, token_name, value_of};
 pub use operands::{
     global, is_next_word, local, optional_atomic, same_scalar, scalar_word, target, typed_value,
     word,
 };
-pub use parts::{is_punct, punct, result_name, scalar, value};
+pub use parts::{is_punct, local_name, punct, result_name, scalar, value};
 pub use rest::Rest;
 pub use runs::{
-    ending_last, endings, ignored_from, ignored_run, is_metadata, next_ending, run_item, run_rest,
+    balanced, ending_last, endings, ignored_from, ignored_run, is_metadata, next_ending, run_item,
+    run_rest,
 };
-pub use types::type_of;
+pub use texts::text_of;
+pub use types::{array_front, arrays_from, base_type, closed_type, next_array, type_of};
 pub use words::{BIN_OP_WORDS, find, scalar_of};

@@ -11,7 +11,7 @@ use std::alloc::{AllocError, Global};
 
 /// The name that stands behind `%` or `@`, if it is one.
 #[tactic(auto, unfolding(ds_grammar::specs::Tokens::name_of))]
-fn name_of(alloc: Global, bytes: &[u8]) -> Result<Option<Name>, AllocError>
+pub fn name_of(alloc: Global, bytes: &[u8]) -> Result<Option<Name>, AllocError>
     ensures { IfOk result (λ name. name ≡ spec.name_of bytes.now) }
 {
     if are_digits(bytes) {

@@ -3,7 +3,7 @@ ghost use Rattle.std.specs.Prelude.{◌≡◌, ◌≤◌, length, option_map};
 ghost use Rattle.ds_grammar.specs.Lexemes.{lexemes, AreInside};
 ghost use Rattle.ds_grammar.specs.Fault as fault;
 ghost use Rattle.ds_grammar.specs.Fault.{dead_fault};
-ghost use Rattle.ds_grammar.specs.Parsed.{settled_by};
+ghost use Rattle.ds_grammar.specs.Parsed.{settled_by, whole_by};
 ghost use Rattle.ds_grammar.specs.Reading as reading;
 ghost use Rattle.ds_grammar.specs.Reading.{first, past};
 
@@ -128,6 +128,19 @@ impl<'a> Rest<'a> {
         match self.worst {
             Some(breach) => Err(breach_fault(breach)),
             None => Ok((value, self.tokens.len())),
+        }
+    }
+
+    /// This value where no token is left, or a fault: that of the least breach, or else that of the first token that is left.
+    pub fn finish_whole<A: Drop>(self, value: A) -> Result<A, ParseFault>
+        ensures { result ≡ whole_by self.entry.worst self.entry.end value self.entry.left }
+    {
+        match self.worst {
+            Some(breach) => Err(breach_fault(breach)),
+            None => match self.peek() {
+                None => Ok(value),
+                Some((kind, bytes, at)) => Err(token_fault(kind, bytes, at)),
+            },
         }
     }
 }

@@ -13,7 +13,7 @@ use std::alloc::Global;
 
 /// Any tokens whose brackets match, up to this bracket.
 #[tactic(auto, unfolding(ds_grammar::specs::Rows::balanced))]
-fn balanced<'a>(alloc: Global, closer: u8, rest: Rest<'a>) -> Result<Rest<'a>, ParseFault>
+pub fn balanced<'a>(alloc: Global, closer: u8, rest: Rest<'a>) -> Result<Rest<'a>, ParseFault>
     ensures { Passes result (value_at (rows.balanced closer) rest.entry) }
 {
     runs_go_on();

@@ -43,7 +43,7 @@ fn array_count<'a>(rest: Rest<'a>) -> Result<(u32, Rest<'a>), ParseFault>
 }
 
 /// Where the next token is the `[` of an array, its place.
-fn next_array(rest: &Rest) -> Option<u32>
+pub fn next_array(rest: &Rest) -> Option<u32>
     ensures { result ≡ first_value (λ t. types.array_place t.kind t.bytes t.at) rest.now.left }
 {
     match rest.peek() {
@@ -54,7 +54,7 @@ fn next_array(rest: &Rest) -> Option<u32>
 
 /// What stands behind the `[` of an array, which stands at `at`, up to the type of its elements.
 #[tactic(auto, unfolding(ds_grammar::specs::Types::array_front))]
-fn array_front<'a>(
+pub fn array_front<'a>(
     opened: Arrays,
     at: u32,
     rest: Rest<'a>,
@@ -70,15 +70,15 @@ fn array_front<'a>(
     Ok((opened, rest))
 }
 
-/// Any number of arrays that a type begins with.
+/// Any number of arrays that a type goes on with, inside these.
 #[tactic(auto, unfolding(ds_grammar::specs::Types::arrays_from))]
-fn arrays<'a>(alloc: Global, rest: Rest<'a>) -> Result<(Arrays, Rest<'a>), ParseFault>
-    ensures { Gives result (value_at types.arrays rest.entry) }
+pub fn arrays_from<'a>(opened: Arrays, rest: Rest<'a>) -> Result<(Arrays, Rest<'a>), ParseFault>
+    ensures { Gives result (value_at (types.arrays_from opened) rest.entry) }
 {
     runs_go_on();
     readings_take_tokens();
     let mut rest = rest;
-    let mut opened = Arrays::new(alloc);
+    let mut opened = opened;
     while let Some(at) = next_array(&rest) {
         let (inner, behind) = array_front(opened, at, rest.past())?;
         opened = inner;
@@ -102,7 +102,7 @@ fn word_type(may_be_void: bool, bytes: &[u8]) -> Option<Ty>
 }
 
 /// The type inside all arrays, if a token is one.
-fn base_type(
+pub fn base_type(
     alloc: Global,
     may_be_void: bool,
     kind: TokenKind,
@@ -148,7 +148,7 @@ fn next_end(opened: &mut Arrays, rest: &Rest) -> Option<u32>
 
 /// A `]` for each of these arrays around the type.
 #[tactic(auto, unfolding(ds_grammar::specs::Types::closed_type))]
-fn closed_type<'a>(
+pub fn closed_type<'a>(
     alloc: Global,
     opened: Arrays,
     base: Ty,
@@ -181,7 +181,7 @@ pub fn type_of<'a>(
 ) -> Result<(Ty, Rest<'a>), ParseFault>
     ensures { Gives result (value_at (types.type_of may_be_void) rest.entry) }
 {
-    let (opened, rest) = arrays(alloc, rest)?;
+    let (opened, rest) = arrays_from(Arrays::new(alloc), rest)?;
     let may_be_void = may_be_void || !opened.is_empty();
     let read = match rest.peek() {
         Some((kind, bytes, _)) => base_type(alloc, may_be_void, kind, bytes)?,

@@ -1,15 +1,17 @@
-use Rattle.std.proofs.Common.{◌≡◌, ◌∙◌, subst, ap, length}
+use Rattle.std.proofs.Common.{◌≡◌, ◌∙◌, ◌-◌, subst, sym, ap, length, take, drop}
 use Rattle.std.specs.Prelude.{Ok}
-use Rattle.ds_grammar.specs.Lexemes.{lexemes_from}
+use Rattle.ds_grammar.specs.Lexemes.{lexemes_from, AreInside}
 use Rattle.ds_grammar.specs.Reading.{value_at}
 use Rattle.ds_grammar.specs.Parsed.{answer}
 use Rattle.ds_grammar.specs.Instructions.{instruction}
-use Rattle.ds_parse_instr.proofs.Inside.{inside_part}
 use Rattle.ds_parse_instr.proofs.Parsing.{length_from, start_is, passed_on, answered, moved, only_ok, only_memory}
 use Rattle.ds_parse_instr.proofs.parser.parse_instr.Goals as goal
 
 pub new-requires-clause-inside : goal.new-requires-clause-inside
-new-requires-clause-inside c = inside_part c.args.text.now c.args.tokens.now c.requires.lexed _ c.args.at.now c.as_slice-all.result.now c.as_slice-all.ensures
+new-requires-clause-inside c =
+    let all = c.as_slice-all.result.now in
+    subst (λ ts. AreInside c.args.text.now (take (length all - 1 - c.args.at.now) (drop c.args.at.now ts))) (sym c.as_slice-all.ensures)
+    (c.tokens_lie_inside.ensures c.args.text.now c.args.tokens.now c.requires.lexed (length all - 1 - c.args.at.now) c.args.at.now)
 
 pub returns-in_err-instr-clause-only : goal.returns-in_err-instr-clause-only
 returns-in_err-instr-clause-only c = λ instr n h.

@@ -2,7 +2,7 @@ use Rattle.std.proofs.Common.{sym, ap, ◌∙◌}
 use Rattle.ds_grammar.specs.Sort.{a_number, both_of, list_of}
 use Rattle.ds_grammar.specs.Reading.{value_at}
 use Rattle.ds_grammar.specs.Types.{arrays_from, array_place, array_front}
-use Rattle.ds_reader.proofs.types.arrays.Goals as goal
+use Rattle.ds_reader.proofs.types.arrays_from.Goals as goal
 
 pub loop-at-preserved : goal.loop-at-preserved
 unfolding arrays_from

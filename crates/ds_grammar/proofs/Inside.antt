@@ -5,7 +5,7 @@ use Rattle.std.specs.Prelude.{MatchBool}
 use Rattle.std.specs.List.{All}
 use Rattle.ds_lex.specs.declared.token.Token.{Token}
 use Rattle.ds_lex.specs.Lexed.{Lexed, LexedFrom, is_end}
-use Rattle.ds_grammar.specs.Lexemes.{AreInside}
+use Rattle.ds_grammar.specs.Laws.{TokensLieInside}
 
 abbrev IsInside : List ℕ → Token → Type 0
 IsInside text t = (t.start ≤ t.end) × (t.end ≤ length text)
@@ -22,5 +22,5 @@ inside_from text at [] h = absurd h
 inside_from text at (t ∷ us) h =
     All-cons (IsInside text) t us (h.0.ordered, omega (arith, h.0.ordered, h.0.gap.within, h.0.is.longest.within, length-drop t.start text)) (inside_behind text t us (is_end t.kind) h.1 (λ m. inside_from text t.end us m))
 
-pub inside_part : (text : List ℕ) (ts : List Token) → Lexed text ts → (n at : ℕ) (us : List Token) → us ≡ ts → AreInside text (take n (drop at us))
-inside_part text ts h n at us e = rw e (All-take (IsInside text) n (drop at ts) (All-drop (IsInside text) at ts (inside_from text 0 ts h)))
+pub tokens_inside : TokensLieInside
+tokens_inside text ts h n at = All-take (IsInside text) n (drop at ts) (All-drop (IsInside text) at ts (inside_from text 0 ts h))
