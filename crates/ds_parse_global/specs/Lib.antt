@@ -1,0 +1,3 @@
+pub mod Same
+pub mod Heads
+pub mod Places
