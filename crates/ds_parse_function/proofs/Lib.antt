@@ -1,0 +1,4 @@
+pub mod Taken
+pub mod Optional
+pub mod Marks
+pub mod Inside
