@@ -1,0 +1,12 @@
+pub mod Alls
+pub mod Within
+pub mod Leaves
+pub mod Types
+pub mod Lists
+pub mod Rows
+pub mod Counters
+pub mod Parameters
+pub mod Bodies
+pub mod Initialisers
+pub mod Modules
+pub mod Texts
