@@ -1,0 +1,5 @@
+pub mod Names
+pub mod Canonical
+pub mod Separators
+pub mod Parts
+pub mod Lines
