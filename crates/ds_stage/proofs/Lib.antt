@@ -1,0 +1,4 @@
+pub mod Defined
+pub mod Loops
+pub mod Found
+pub mod WellFormed
