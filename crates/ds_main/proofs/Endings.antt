@@ -1,24 +1,36 @@
 -- How a call ends, and what that says of its status, its record and what the sink took.
-use Rattle.std.proofs.Common.{◌≡◌, ℕ, ◌⊎◌, inl, inr, List, [], Option, Some, None, sym}
+use Rattle.std.proofs.Common.{◌≡◌, ℕ, ◌⊎◌, inl, inr, List, [], Option, Some, None, refl, sym, subst}
 use Rattle.std.specs.Option.{option_map}
-use Rattle.ds_small.specs.Module.{Module}
+use Rattle.ds_ast.specs.declared.module.Module.{Module}
+use Rattle.ds_small.specs.Module as small
 use Rattle.ds_io.specs.Counts.{Rose}
 use Rattle.ds_io.specs.Source.{GivesAll}
+use Rattle.ds_core.specs.declared.record.RunRecord.{RunRecord}
+use Rattle.ds_print.specs.Canonical.{canon}
 use Rattle.ds_report.specs.declared.fault.Fault.{Fault}
-use Rattle.ds_report.specs.declared.fault.Fault.TheVariants.{Usage, Read, TooLong, Parse}
+use Rattle.ds_report.specs.declared.fault.Fault.TheVariants.{Usage, Read, TooLong, Parse, OtherForm}
 use Rattle.ds_report.specs.Fault.{fault_text}
-use Rattle.ds_main.specs.Job.{HasJob}
+use Rattle.ds_main.specs.declared.input.NoModule.{NoModule}
+use Rattle.ds_main.specs.declared.input.NoModule.TheVariants as none
+use Rattle.ds_main.specs.declared.job.Job.{Job}
+use Rattle.ds_main.specs.declared.job.Job.TheVariants.{Replay, Instrument}
+use Rattle.ds_main.specs.Job.{IsJob}
+use Rattle.ds_main.specs.Input.{Held, IsModuleOfInput, IsOtherForm}
 use Rattle.ds_main.specs.Run.{IsEmpty, IsRunOfModule, IsRunOfInput}
-use Rattle.ds_main.specs.Ending.{Call, Faults, Refused, RefusedInPart, HasRun, Reported, ReportedInPart, OutOfMemory, Ends, status_of, IsDue, IsInputFault, Delivers, Unwritten, IsInputOf, RunEnds, ReplayEnds}
+use Rattle.ds_main.specs.Ending.{Call, Faults, Refused, RefusedInPart, HasRun, Reported, ReportedInPart, HasPrinted, Instrumented, InstrumentedInPart, OutOfMemory, Ends, status_of, IsDue, IsInputFault, Delivers, Unwritten, IsInputOf, IsSmallInputOf, RunEnds, ModuleEnds, Stops, ReplayEnds, InstrumentEnds}
+use Rattle.ds_main.specs.Stopped.{Explains, StoppedBy}
 use Rattle.ds_main.proofs.Inputs.{held_bytes}
 
 -- by how the call ended
-pub by_ending : (call : Call) (P : Type 0) → (Refused call → P) → (RefusedInPart call → P) → (Reported call → P) → (ReportedInPart call → P) → (OutOfMemory call → P) → Ends call → P
-by_ending call P a b c d e (inl x) = a x
-by_ending call P a b c d e (inr (inl x)) = b x
-by_ending call P a b c d e (inr (inr (inl x))) = c x
-by_ending call P a b c d e (inr (inr (inr (inl x)))) = d x
-by_ending call P a b c d e (inr (inr (inr (inr x)))) = e x
+pub by_ending : (call : Call) (P : Type 0) → (Refused call → P) → (RefusedInPart call → P) → (Reported call → P) → (ReportedInPart call → P) → (Instrumented call → P) → (InstrumentedInPart call → P)
+    → (OutOfMemory call → P) → Ends call → P
+by_ending call P a b c d e f g (inl x) = a x
+by_ending call P a b c d e f g (inr (inl x)) = b x
+by_ending call P a b c d e f g (inr (inr (inl x))) = c x
+by_ending call P a b c d e f g (inr (inr (inr (inl x)))) = d x
+by_ending call P a b c d e f g (inr (inr (inr (inr (inl x))))) = e x
+by_ending call P a b c d e f g (inr (inr (inr (inr (inr (inl x)))))) = f x
+by_ending call P a b c d e f g (inr (inr (inr (inr (inr (inr x)))))) = g x
 
 refused : (call : Call) → Refused call → Ends call
 refused call x = inl x
@@ -32,15 +44,22 @@ reported call x = inr (inr (inl x))
 reported_in_part : (call : Call) → ReportedInPart call → Ends call
 reported_in_part call x = inr (inr (inr (inl x)))
 
-out_of_memory : (call : Call) → Unwritten call.taken call.taken_after call.status → IsEmpty call.run ⊎ (HasJob call.words × IsRunOfInput call.left call.run) → Ends call
-out_of_memory call u run = inr (inr (inr (inr (record { status = u.0; nothing = u.1; run = run }))))
+instrumented : (call : Call) → Instrumented call → Ends call
+instrumented call x = inr (inr (inr (inr (inl x))))
+
+instrumented_in_part : (call : Call) → InstrumentedInPart call → Ends call
+instrumented_in_part call x = inr (inr (inr (inr (inr (inl x)))))
+
+out_of_memory : (call : Call) → Unwritten call.taken call.taken_after call.status → IsEmpty call.run ⊎ (IsJob call.words Replay × IsRunOfInput call.left call.run) → Ends call
+out_of_memory call u run = inr (inr (inr (inr (inr (inr (record { status = u.0; nothing = u.1; run = run }))))))
 
 -- a fault of the input is due where there is a job
-due : (words : List (List ℕ)) (left : Option (List ℕ)) (read_rose : Type 0) (fault : Fault) → HasJob words → IsInputFault left read_rose fault → IsDue words left read_rose fault
-due words left read_rose Usage job input = absurd input
-due words left read_rose Read job input = (job, input)
-due words left read_rose TooLong job input = (job, input)
-due words left read_rose (Parse fault) job input = (job, input)
+due : (words : List (List ℕ)) (left : Option (List ℕ)) (read_rose : Type 0) (fault : Fault) (job : Job) → IsJob words job → IsInputFault job left read_rose fault → IsDue words left read_rose fault
+due words left read_rose Usage job is input = absurd input
+due words left read_rose Read job is input = (job, is, input)
+due words left read_rose TooLong job is input = (job, is, input)
+due words left read_rose (Parse fault) job is input = (job, is, input)
+due words left read_rose OtherForm job is input = (job, is, input)
 
 fault_ends : (call : Call) (fault : Fault) → Faults call fault → IsEmpty call.run
     → Delivers (fault_text fault) (status_of fault) call.taken call.taken_after call.writes call.writes_after call.status ⊎ Unwritten call.taken call.taken_after call.status → Ends call
@@ -48,30 +67,65 @@ fault_ends call fault is empty (inl (inl told)) = refused call (record { fault =
 fault_ends call fault is empty (inl (inr told)) = refused_in_part call (record { fault = fault; due = is; status = told.0; rose = told.1; written = told.2; empty = empty })
 fault_ends call fault is empty (inr unwritten) = out_of_memory call unwritten (inl empty)
 
+stop_ends : (call : Call) (job : Job) → IsJob call.words job → Stops job call.left call.reads call.reads_after call.taken call.taken_after call.writes call.writes_after call.status call.run → Ends call
+stop_ends call job is (inl x) = fault_ends call x.0 (due call.words call.left (Rose call.reads call.reads_after) x.0 job is x.1) x.2 x.3
+stop_ends call job is (inr x) = out_of_memory call x.0 (inl x.1)
+
 read_out : (left left_after : Option (List ℕ)) (bytes : List ℕ) → GivesAll left bytes left_after → left_after ≡ option_map (λ _. []) left
 read_out None left_after bytes all = all
 read_out (Some whole) left_after bytes all = all.1
 
-run_of_input : (call : Call) (small : Module) → IsInputOf call.left call.left_after small → IsRunOfModule small call.run → IsRunOfInput call.left call.run
-run_of_input call small input run =
-    record { bytes = input.0; small = small; held = λ bytes held. sym (held_bytes call.left call.left_after input.0 bytes input.1 held); spelled = input.2; run_of = run }
+run_of_input : (call : Call) (s : small.Module) → IsSmallInputOf call.left call.left_after s → IsRunOfModule s call.run → IsRunOfInput call.left call.run
+run_of_input call s input run =
+    record { bytes = input.0; small = s; held = λ bytes held. sym (held_bytes call.left call.left_after input.0 bytes input.1 held); spelled = input.2; run_of = run }
 
-run_ends : (call : Call) (small : Module) → HasJob call.words → IsInputOf call.left call.left_after small
-    → RunEnds small call.taken call.taken_after call.writes call.writes_after call.status call.run → Ends call
-run_ends call small job input (inl x) = out_of_memory call x.0 (inl x.1)
-run_ends call small job input (inr x) =
+run_ends : (call : Call) (s : small.Module) → IsJob call.words Replay → IsSmallInputOf call.left call.left_after s
+    → RunEnds s call.taken call.taken_after call.writes call.writes_after call.status call.run → Ends call
+run_ends call s job input (inl x) = out_of_memory call x.0 (inl x.1)
+run_ends call s job input (inr x) =
     elim x.1 [
-      | inl unwritten ↦ out_of_memory call unwritten (inr (job, run_of_input call small input x.0))
+      | inl unwritten ↦ out_of_memory call unwritten (inr (job, run_of_input call s input x.0))
       | inr y ↦
-          let ran : HasRun call y.0 = record { job = job; run = run_of_input call small input x.0; read = read_out call.left call.left_after input.0 input.1; report = y.1 } in
+          let ran : HasRun call y.0 = record { job = job; run = run_of_input call s input x.0; read = read_out call.left call.left_after input.0 input.1; report = y.1 } in
           elim y.2 [
             | inl told ↦ reported call (record { text = y.0; ran = ran; status = told.0; written = told.1 })
             | inr told ↦ reported_in_part call (record { text = y.0; ran = ran; status = told.0; rose = told.1; written = told.2 })
           ]
     ]
 
-pub replay_ends : (call : Call) → HasJob call.words
+pub replay_ends : (call : Call) → IsJob call.words Replay
     → ReplayEnds call.left call.left_after call.reads call.reads_after call.taken call.taken_after call.writes call.writes_after call.status call.run → Ends call
-replay_ends call job (inl x) = fault_ends call x.0 (due call.words call.left (Rose call.reads call.reads_after) x.0 job x.1) x.2 x.3
-replay_ends call job (inr (inl x)) = out_of_memory call x.0 (inl x.1)
-replay_ends call job (inr (inr x)) = run_ends call x.0 job x.1 x.2
+replay_ends call job (inl x) = stop_ends call Replay job x
+replay_ends call job (inr x) = run_ends call x.0 job x.1 x.2
+
+pub instrument_ends : (call : Call) → IsJob call.words Instrument
+    → InstrumentEnds call.left call.left_after call.reads call.reads_after call.taken call.taken_after call.writes call.writes_after call.status call.run → Ends call
+instrument_ends call job (inl x) = stop_ends call Instrument job x
+instrument_ends call job (inr x) =
+    let input = x.1 in
+    let of : IsModuleOfInput call.left x.0 = record { bytes = input.0; held = λ bytes held. sym (held_bytes call.left call.left_after input.0 bytes input.1 held); spelled = input.2 } in
+    let printed : HasPrinted call (canon x.0) = record { job = job; input_module = x.0; of_input = of; read = read_out call.left call.left_after input.0 input.1; canonical = refl; empty = x.2 } in
+    elim x.3 [
+      | inl told ↦ instrumented call (record { text = canon x.0; printed = printed; status = told.0; written = told.1 })
+      | inr told ↦ instrumented_in_part call (record { text = canon x.0; printed = printed; status = told.0; rose = told.1; written = told.2 })
+    ]
+
+-- an input that gives no module ends the job
+pub stopped : (job : Job) (left : Option (List ℕ)) (reads reads_after : ℕ) (taken taken_after : Option (List ℕ)) (writes writes_after status : ℕ) (run : RunRecord) (why : NoModule)
+    → Explains left (Rose reads reads_after) why → StoppedBy why taken taken_after writes writes_after status → IsEmpty run
+    → Stops job left reads reads_after taken taken_after writes writes_after status run
+stopped job left reads reads_after taken taken_after writes writes_after status run (none.Refused fault) explained by empty = inl (fault, explained job, empty, by)
+stopped job left reads reads_after taken taken_after writes writes_after status run none.Memory explained by empty = inr (by, empty)
+
+-- what is known of the bytes that were read is known of those that the source held
+held_by : (left left_after : Option (List ℕ)) (given : List ℕ) (P : List ℕ → Type 0) → GivesAll left given left_after → P given → Held left P
+held_by left left_after given P all is bytes e = subst P (held_bytes left left_after given bytes all e) is
+
+-- how the job ends that has this module
+pub module_ends : (left left_after : Option (List ℕ)) (reads reads_after : ℕ) (taken taken_after : Option (List ℕ)) (writes writes_after status : ℕ) (run : RunRecord) (m : Module)
+    → IsInputOf left left_after m → ModuleEnds m taken taken_after writes writes_after status run
+    → ReplayEnds left left_after reads reads_after taken taken_after writes writes_after status run
+module_ends left left_after reads reads_after taken taken_after writes writes_after status run m input (inl x) =
+    inl (inl (OtherForm, (tt, held_by left left_after input.0 IsOtherForm input.1 (m, input.2, x.0)), x.1, x.2))
+module_ends left left_after reads reads_after taken taken_after writes writes_after status run m input (inr (inl x)) = inl (inr x)
+module_ends left left_after reads reads_after taken taken_after writes writes_after status run m input (inr (inr x)) = inr (x.0, (input.0, input.1, (m, input.2, x.1)), x.2)

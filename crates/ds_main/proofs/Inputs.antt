@@ -1,15 +1,15 @@
 -- What was read is what the source held.
-use Rattle.std.proofs.Common.{◌≡◌, ℕ, ◌≤◌, List, [], ◌∷◌, length, Option, Some, None, subst, ◌∙◌}
+use Rattle.std.proofs.Common.{◌≡◌, ℕ, ◌≤◌, List, length, Option, Some, None, sym, subst, ◌∙◌, ◌⊎◌, inl, inr}
 use Rattle.ds_io.specs.Source.{GivesAll}
-use Rattle.ds_lex.specs.declared.fault.LexFault.{LexFault}
-use Rattle.ds_lex.specs.declared.fault.LexFault.TheVariants.{BadByte, BadName, BadNumber, OpenText}
-use Rattle.ds_lex.specs.declared.fault.LexFault.TheVariants as lex
-use Rattle.ds_lex.specs.declared.token.Token.{Token}
-use Rattle.ds_lex.specs.Fault.{FaultFrom, HasFault}
-use Rattle.ds_parse.specs.Form.{IsOtherForm}
-use Rattle.ds_parse.specs.declared.fault.ParseFault.TheVariants.{Lex, OtherForm}
+use Rattle.ds_grammar.specs.declared.fault.ParseFault.{ParseFault}
+use Rattle.ds_grammar.specs.declared.fault.ParseFault.TheVariants as fault
+use Rattle.ds_parse.specs.Faults.{HasParseFault}
+use Rattle.ds_report.specs.declared.fault.Fault.{Fault}
+use Rattle.ds_main.specs.declared.input.NoModule.{NoModule}
+use Rattle.ds_main.specs.declared.input.NoModule.TheVariants as none
 use Rattle.ds_main.specs.Input.{longest_input, Held}
-use Rattle.ds_main.specs.Ending.{IsParseFault}
+use Rattle.ds_main.specs.Ending.{IsTold, IsInputFault}
+use Rattle.ds_main.specs.Stopped.{Explains, TellsParseFault}
 
 pub held_bytes : (left left_after : Option (List ℕ)) (given bytes : List ℕ) → GivesAll left given left_after → left ≡ Some bytes → given ≡ bytes
 held_bytes None left_after given bytes all held = absurd (cc)
@@ -20,19 +20,16 @@ held : (left left_after : Option (List ℕ)) (given : List ℕ) (P : List ℕ �
     → Held left (λ bytes. (length bytes ≤ longest_input) × P bytes)
 held left left_after given P all within is bytes e = let Q : List ℕ → Type 0 = λ bytes. (length bytes ≤ longest_input) × P bytes in subst Q (held_bytes left left_after given bytes all e) (within, is)
 
--- bytes with tokens that spell no module are what the source held
-pub held_other_form : (left left_after : Option (List ℕ)) (given : List ℕ) → GivesAll left given left_after → length given ≤ longest_input → IsOtherForm given → IsParseFault left OtherForm
-held_other_form left left_after given all within is = held left left_after given IsOtherForm all within is
+-- want of memory is not told
+not_told : (why : NoModule) (told : Fault) (f : ParseFault) → IsTold f → f ≡ fault.Memory → ⊥
+not_told why told f is e = subst IsTold e is
 
--- no text is at fault for want of memory
-no_memory : (text : List ℕ) (at : ℕ) (ts : List Token) → FaultFrom text at ts lex.Memory → ⊥
-no_memory text at [] h = h.2
-no_memory text at (t ∷ ts) h = no_memory text t.end ts h.2
-
--- bytes with a lexical fault are what the source held
-pub held_lexical : (left left_after : Option (List ℕ)) (given : List ℕ) (fault : LexFault) → GivesAll left given left_after → length given ≤ longest_input → HasFault given fault → IsParseFault left (Lex fault)
-held_lexical left left_after given (BadByte at) all within is = held left left_after given (λ bytes. HasFault bytes (BadByte at)) all within is
-held_lexical left left_after given (BadName at) all within is = held left left_after given (λ bytes. HasFault bytes (BadName at)) all within is
-held_lexical left left_after given (BadNumber at) all within is = held left left_after given (λ bytes. HasFault bytes (BadNumber at)) all within is
-held_lexical left left_after given (OpenText at) all within is = held left left_after given (λ bytes. HasFault bytes (OpenText at)) all within is
-held_lexical left left_after given lex.Memory all within is = absurd (no_memory given 0 is.0 is.1)
+-- the fault of the text is one of the input
+pub explained : (left left_after : Option (List ℕ)) (rose : Type 0) (given text : List ℕ) (f : ParseFault) (why : NoModule) → GivesAll left given left_after → length given ≤ longest_input → text ≡ given
+    → (f ≡ fault.Memory) ⊎ HasParseFault text f → TellsParseFault f why → Explains left rose why
+explained left left_after rose given text f none.Memory all within same h t = tt
+explained left left_after rose given text f (none.Refused told) all within same (inl m) t = absurd (not_told (none.Refused told) told f t.1 m)
+explained left left_after rose given text f (none.Refused told) all within same (inr h) t = λ job.
+    let P : Fault → Type 0 = IsInputFault job left rose in
+    let Q : List ℕ → Type 0 = λ bytes. HasParseFault bytes f in
+    subst P (sym t.0) (t.1, held left left_after given Q all within (subst Q same h))

@@ -1,10 +1,23 @@
 -- One word.
-use Rattle.std.proofs.Common.{◌≡◌, ℕ, List, [], ◌∷◌, length, get_or, ap, ◌∙◌, sym}
-use Rattle.std.specs.Prelude.{String, string_bytes}
+use Rattle.std.proofs.Common.{◌≡◌, ℕ, Bool, List, [], ◌∷◌, length, get_or, ap, ◌∙◌, sym}
+use Rattle.std.specs.Prelude.{String, string_bytes, ◌↔◌, IsTrue}
+use Rattle.std.specs.Str.{bytes_eq}
+use Rattle.std.specs.Cmp.Lexicographic.{bytes_decides}
 use Rattle.ds_main.specs.Job.{texts}
 
 -- the text of a single word
-pub one_word : {Z : Type 0} (words : List (String Z)) (word : String Z) (text : List ℕ) → length words ≡ 1 → word ≡ get_or words 0 word → string_bytes word ≡ text → texts words ≡ text ∷ []
-one_word [] word text one is same = absurd (cc)
-one_word (w ∷ []) word text one is same = ap (λ (t : List ℕ). t ∷ []) (ap string_bytes (sym is) ∙ same)
-one_word (w ∷ v ∷ ws) word text one is same = absurd (cc)
+one_word : {Z : Type 0} (words : List (String Z)) (word : String Z) → length words ≡ 1 → word ≡ get_or words 0 word → texts words ≡ string_bytes word ∷ []
+one_word [] word one is = absurd (cc)
+one_word (w ∷ []) word one is = ap (λ w. string_bytes w ∷ []) (sym is)
+one_word (w ∷ v ∷ ws) word one is = absurd (cc)
+
+only_is : (a b : List ℕ) → a ∷ [] ≡ b ∷ [] → a ≡ b
+only_is a b e = cc (e)
+
+-- whether the bytes of a single word are these
+pub is_only : {Z : Type 0} (words : List (String Z)) (word : String Z) (bytes text : List ℕ) (b : Bool) → length words ≡ 1 → word ≡ get_or words 0 word → bytes ≡ string_bytes word → b ≡ bytes_eq bytes text
+    → IsTrue b ↔ (texts words ≡ text ∷ [])
+is_only words word bytes text b one is same e = (
+  (λ t. one_word words word one is ∙ ap (λ x. x ∷ []) (sym same ∙ (bytes_decides bytes text).0 (sym e ∙ t))),
+  (λ w. e ∙ (bytes_decides bytes text).1 (same ∙ only_is _ _ (sym (one_word words word one is) ∙ w))),
+)

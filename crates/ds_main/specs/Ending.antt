@@ -1,21 +1,26 @@
 -- How a call may end.
-use Rattle.std.specs.Prelude.{◌≡◌, ℕ, ◌⊎◌, List, [], Option}
+use Rattle.std.specs.Prelude.{◌≡◌, ℕ, ◌⊎◌, List, [], Option, Some, None}
 use Rattle.std.specs.Option.{option_map}
-use Rattle.ds_small.specs.Module.{Module}
+use Rattle.ds_ast.specs.declared.module.Module.{Module}
+use Rattle.ds_small.specs.Module as small
+use Rattle.ds_stage.specs.Form.{small_of}
 use Rattle.ds_io.specs.Counts.{Rose}
 use Rattle.ds_io.specs.Source.{GivesAll}
 use Rattle.ds_io.specs.Sink.{Takes, TakesFront}
 use Rattle.ds_core.specs.declared.record.RunRecord.{RunRecord}
-use Rattle.ds_report.specs.declared.fault.Fault.{Fault}
-use Rattle.ds_report.specs.declared.fault.Fault.TheVariants.{Usage, Read, TooLong, Parse}
 use Rattle.ds_lex.specs.declared.fault.LexFault.TheVariants.{BadByte, BadName, BadNumber, OpenText}
 use Rattle.ds_lex.specs.declared.fault.LexFault.TheVariants as lex
-use Rattle.ds_parse.specs.declared.fault.ParseFault.{ParseFault}
-use Rattle.ds_parse.specs.declared.fault.ParseFault.TheVariants.{Lex, OtherForm, Memory}
+use Rattle.ds_grammar.specs.declared.fault.ParseFault.{ParseFault}
+use Rattle.ds_grammar.specs.declared.fault.ParseFault.TheVariants as parse
+use Rattle.ds_print.specs.Canonical.{canon}
+use Rattle.ds_report.specs.declared.fault.Fault.{Fault}
+use Rattle.ds_report.specs.declared.fault.Fault.TheVariants.{Usage, Read, TooLong, Parse, OtherForm}
 use Rattle.ds_report.specs.Fault.{fault_text}
 use Rattle.ds_report.specs.Report.{IsReport}
-use Rattle.ds_main.specs.Job.{HasJob, NoJob}
-use Rattle.ds_main.specs.Input.{Held, Spells, IsTooLong, HasLexFault, IsUnspelled}
+use Rattle.ds_main.specs.declared.job.Job.{Job}
+use Rattle.ds_main.specs.declared.job.Job.TheVariants.{Replay, Instrument}
+use Rattle.ds_main.specs.Job.{IsJob, NoJob, IsReplay}
+use Rattle.ds_main.specs.Input.{Held, Spells, SpellsSmall, IsTooLong, HasTextFault, IsOtherForm, IsModuleOfInput}
 use Rattle.ds_main.specs.Run.{IsEmpty, IsRunOfModule, IsRunOfInput, run_status, IsRunStatus}
 
 -- the status of a fault
@@ -24,30 +29,40 @@ status_of Usage = 2
 status_of Read = 4
 status_of TooLong = 1
 status_of (Parse fault) = 1
+status_of OtherForm = 1
 
--- The bytes that the source held, where it tells them, have this fault. Want of memory is none.
-abbrev pub IsParseFault : Option (List ℕ) → ParseFault → Type 0
-IsParseFault left (Lex (BadByte at)) = Held left (HasLexFault (BadByte at))
-IsParseFault left (Lex (BadName at)) = Held left (HasLexFault (BadName at))
-IsParseFault left (Lex (BadNumber at)) = Held left (HasLexFault (BadNumber at))
-IsParseFault left (Lex (OpenText at)) = Held left (HasLexFault (OpenText at))
-IsParseFault left (Lex lex.Memory) = ⊥
-IsParseFault left OtherForm = Held left IsUnspelled
-IsParseFault left Memory = ⊥
+-- the fault has a line: want of memory is told by the status alone
+abbrev pub IsTold : ParseFault → Type 0
+IsTold (parse.Lex (BadByte at)) = Unit {0}
+IsTold (parse.Lex (BadName at)) = Unit {0}
+IsTold (parse.Lex (BadNumber at)) = Unit {0}
+IsTold (parse.Lex (OpenText at)) = Unit {0}
+IsTold (parse.Lex lex.Memory) = ⊥
+IsTold (parse.Expected at) = Unit {0}
+IsTold (parse.Unsupported at) = Unit {0}
+IsTold (parse.Range at) = Unit {0}
+IsTold (parse.DeepType at) = Unit {0}
+IsTold parse.Memory = ⊥
 
--- The input has this fault, and none that is looked for before it.
-abbrev pub IsInputFault : Option (List ℕ) → (read_rose : Type 0) → Fault → Type 0
-IsInputFault left read_rose Usage = ⊥
-IsInputFault left read_rose Read = read_rose
-IsInputFault left read_rose TooLong = Held left IsTooLong
-IsInputFault left read_rose (Parse fault) = IsParseFault left fault
+-- The input has this fault for the job, and none that is looked for before it.
+abbrev pub IsInputFault : Job → Option (List ℕ) → (read_rose : Type 0) → Fault → Type 0
+IsInputFault job left read_rose Usage = ⊥
+IsInputFault job left read_rose Read = read_rose
+IsInputFault job left read_rose TooLong = Held left IsTooLong
+IsInputFault job left read_rose (Parse fault) = IsTold fault × Held left (HasTextFault fault)
+IsInputFault job left read_rose OtherForm = IsReplay job × Held left IsOtherForm
 
--- The fault is the first that stands, in the order in which they are looked for: the words, the reading, the length, the tokens, the form.
+-- the words are a job's, for which the input has this fault
+abbrev pub IsJobFault : List (List ℕ) → Option (List ℕ) → (read_rose : Type 0) → Fault → Type 0
+IsJobFault words left read_rose fault = (job : Job) × IsJob words job × IsInputFault job left read_rose fault
+
+-- The fault is the first that stands, in the order in which they are looked for: the words, the reading, the length, the text, the stage's form.
 abbrev pub IsDue : List (List ℕ) → Option (List ℕ) → (read_rose : Type 0) → Fault → Type 0
 IsDue words left read_rose Usage = NoJob words
-IsDue words left read_rose Read = HasJob words × IsInputFault left read_rose Read
-IsDue words left read_rose TooLong = HasJob words × IsInputFault left read_rose TooLong
-IsDue words left read_rose (Parse fault) = HasJob words × IsInputFault left read_rose (Parse fault)
+IsDue words left read_rose Read = IsJobFault words left read_rose Read
+IsDue words left read_rose TooLong = IsJobFault words left read_rose TooLong
+IsDue words left read_rose (Parse fault) = IsJobFault words left read_rose (Parse fault)
+IsDue words left read_rose OtherForm = IsJobFault words left read_rose OtherForm
 
 -- what a call was given and what it left: its words; what the source held, and how often it had failed; what the sink held, and how often it had failed
 pub record Call : Type 0 where
@@ -90,7 +105,7 @@ pub record RefusedInPart (call : Call) : Type 0 where
 
 -- the module was run, and this is the report
 pub record HasRun (call : Call) (text : List ℕ) : Type 0 where
-  pub job : HasJob call.words
+  pub job : IsJob call.words Replay
   pub run : IsRunOfInput call.left call.run
   pub read : IsReadOut call
   pub report : IsReport call.run.stops call.run.traces text
@@ -110,15 +125,39 @@ pub record ReportedInPart (call : Call) : Type 0 where
   pub rose : Rose call.writes call.writes_after
   pub written : TakesFront call.taken text call.taken_after
 
+-- the module that the input spells was printed as this text, and nothing was run
+pub record HasPrinted (call : Call) (text : List ℕ) : Type 0 where
+  pub job : IsJob call.words Instrument
+  pub input_module : Module
+  pub of_input : IsModuleOfInput call.left input_module
+  pub read : IsReadOut call
+  pub canonical : text ≡ canon input_module
+  pub empty : IsEmpty call.run
+
+-- the module was printed and its text was written
+pub record Instrumented (call : Call) : Type 0 where
+  pub text : List ℕ
+  pub printed : HasPrinted call text
+  pub status : call.status ≡ 0
+  pub written : Takes call.taken text call.taken_after
+
+-- the module was printed, and the sink failed as its text was written
+pub record InstrumentedInPart (call : Call) : Type 0 where
+  pub text : List ℕ
+  pub printed : HasPrinted call text
+  pub status : call.status ≡ 5
+  pub rose : Rose call.writes call.writes_after
+  pub written : TakesFront call.taken text call.taken_after
+
 -- memory ran out, before the run or behind it, and nothing was written
 pub record OutOfMemory (call : Call) : Type 0 where
   pub status : call.status ≡ 6
   pub nothing : call.taken_after ≡ call.taken
-  pub run : IsEmpty call.run ⊎ (HasJob call.words × IsRunOfInput call.left call.run)
+  pub run : IsEmpty call.run ⊎ (IsJob call.words Replay × IsRunOfInput call.left call.run)
 
 -- every call ends so
 abbrev pub Ends : Call → Type 0
-Ends call = Refused call ⊎ RefusedInPart call ⊎ Reported call ⊎ ReportedInPart call ⊎ OutOfMemory call
+Ends call = Refused call ⊎ RefusedInPart call ⊎ Reported call ⊎ ReportedInPart call ⊎ Instrumented call ⊎ InstrumentedInPart call ⊎ OutOfMemory call
 
 -- the sink failed, or memory ran out: these replace any other status
 abbrev pub IsCutShort : ℕ → Type 0
@@ -131,11 +170,12 @@ IsFaultStatus status = (status ≡ 1) ⊎ (status ≡ 2) ⊎ (status ≡ 4)
 abbrev pub IsStatus : ℕ → Type 0
 IsStatus status = IsRunStatus status ⊎ IsFaultStatus status ⊎ IsCutShort status
 
--- this text was due: the line of the fault that ended the call, where nothing was run, or the report of the run
+-- this text was due: the line of the fault that ended the call, where nothing was run; the report of the run; or the canonical text of the module
 abbrev pub IsDueText : List (List ℕ) → Option (List ℕ) → (read_rose : Type 0) → RunRecord → List ℕ → Type 0
 IsDueText words left read_rose run text =
     ((fault : Fault) × IsDue words left read_rose fault × IsEmpty run × (text ≡ fault_text fault))
-    ⊎ (HasJob words × IsRunOfInput left run × IsReport run.stops run.traces text)
+    ⊎ ((IsJob words Replay × IsRunOfInput left run × IsReport run.stops run.traces text)
+    ⊎ (IsJob words Instrument × (m : Module) × IsModuleOfInput left m × IsEmpty run × (text ≡ canon m)))
 
 -- the text was written and the status is the one that stands for that, or the sink failed in the middle of it
 abbrev pub Delivers : List ℕ → ℕ → Option (List ℕ) → Option (List ℕ) → ℕ → ℕ → ℕ → Type 0
@@ -148,18 +188,40 @@ Unwritten taken taken_after status = (status ≡ 6) × (taken_after ≡ taken)
 
 -- the source was read to its end, and what it held spells this module
 abbrev pub IsInputOf : Option (List ℕ) → Option (List ℕ) → Module → Type 0
-IsInputOf left left_after small = (bytes : List ℕ) × GivesAll left bytes left_after × Spells bytes small
+IsInputOf left left_after m = (bytes : List ℕ) × GivesAll left bytes left_after × Spells bytes m
+
+-- the same of a module of the form that this stage runs
+abbrev pub IsSmallInputOf : Option (List ℕ) → Option (List ℕ) → small.Module → Type 0
+IsSmallInputOf left left_after s = (bytes : List ℕ) × GivesAll left bytes left_after × SpellsSmall bytes s
 
 -- how a run of the module ends: memory ran out before it, behind it, or its report was delivered
-abbrev pub RunEnds : Module → Option (List ℕ) → Option (List ℕ) → ℕ → ℕ → ℕ → RunRecord → Type 0
-RunEnds small taken taken_after writes writes_after status run =
+abbrev pub RunEnds : small.Module → Option (List ℕ) → Option (List ℕ) → ℕ → ℕ → ℕ → RunRecord → Type 0
+RunEnds s taken taken_after writes writes_after status run =
     (Unwritten taken taken_after status × IsEmpty run)
-    ⊎ (IsRunOfModule small run × (Unwritten taken taken_after status
+    ⊎ (IsRunOfModule s run × (Unwritten taken taken_after status
     ⊎ ((text : List ℕ) × IsReport run.stops run.traces text × Delivers text (run_status run.stops) taken taken_after writes writes_after status)))
+
+-- how the job `replay` ends once it has its module: the module has another form, memory ran out, or the module was run
+abbrev pub ModuleEnds : Module → Option (List ℕ) → Option (List ℕ) → ℕ → ℕ → ℕ → RunRecord → Type 0
+ModuleEnds m taken taken_after writes writes_after status run =
+    ((small_of m ≡ None) × IsEmpty run × (Delivers (fault_text OtherForm) (status_of OtherForm) taken taken_after writes writes_after status ⊎ Unwritten taken taken_after status))
+    ⊎ ((Unwritten taken taken_after status × IsEmpty run)
+    ⊎ ((s : small.Module) × (small_of m ≡ Some s) × RunEnds s taken taken_after writes writes_after status run))
+
+-- the call ends by a fault of the input, or memory ran out before anything was run
+abbrev pub Stops : Job → Option (List ℕ) → ℕ → ℕ → Option (List ℕ) → Option (List ℕ) → ℕ → ℕ → ℕ → RunRecord → Type 0
+Stops job left reads reads_after taken taken_after writes writes_after status run =
+    ((fault : Fault) × IsInputFault job left (Rose reads reads_after) fault × IsEmpty run × (Delivers (fault_text fault) (status_of fault) taken taken_after writes writes_after status ⊎ Unwritten taken taken_after status))
+    ⊎ (Unwritten taken taken_after status × IsEmpty run)
 
 -- how the job `replay` ends, by what it was given and what it left
 abbrev pub ReplayEnds : Option (List ℕ) → Option (List ℕ) → ℕ → ℕ → Option (List ℕ) → Option (List ℕ) → ℕ → ℕ → ℕ → RunRecord → Type 0
 ReplayEnds left left_after reads reads_after taken taken_after writes writes_after status run =
-    ((fault : Fault) × IsInputFault left (Rose reads reads_after) fault × IsEmpty run × (Delivers (fault_text fault) (status_of fault) taken taken_after writes writes_after status ⊎ Unwritten taken taken_after status))
-    ⊎ (Unwritten taken taken_after status × IsEmpty run)
-    ⊎ ((small : Module) × IsInputOf left left_after small × RunEnds small taken taken_after writes writes_after status run)
+    Stops Replay left reads reads_after taken taken_after writes writes_after status run
+    ⊎ ((s : small.Module) × IsSmallInputOf left left_after s × RunEnds s taken taken_after writes writes_after status run)
+
+-- how the job `instrument` ends, by what it was given and what it left
+abbrev pub InstrumentEnds : Option (List ℕ) → Option (List ℕ) → ℕ → ℕ → Option (List ℕ) → Option (List ℕ) → ℕ → ℕ → ℕ → RunRecord → Type 0
+InstrumentEnds left left_after reads reads_after taken taken_after writes writes_after status run =
+    Stops Instrument left reads reads_after taken taken_after writes writes_after status run
+    ⊎ ((m : Module) × IsInputOf left left_after m × IsEmpty run × Delivers (canon m) 0 taken taken_after writes writes_after status)

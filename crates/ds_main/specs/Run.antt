@@ -8,7 +8,7 @@ use Rattle.ds_plain.specs.Explained.{IsRunOf, IsLegalOrder}
 use Rattle.ds_plain.specs.Small.{program_of}
 use Rattle.ds_core.specs.declared.record.RunRecord.{RunRecord}
 use Rattle.ds_report.specs.Report.{is_trap}
-use Rattle.ds_main.specs.Input.{Held, Spells}
+use Rattle.ds_main.specs.Input.{Held, SpellsSmall}
 
 -- nothing was run
 pub record IsEmpty (run : RunRecord) : Type 0 where
@@ -24,12 +24,12 @@ pub record IsRunOfModule (small : Module) (run : RunRecord) : Type 0 where
   pub explained : IsRunOf (program_of small) default_limits small.globals run.stops run.traces
   pub order : IsSomeAnd run.order (IsLegalOrder default_limits small.globals run.traces)
 
--- the run is one of the module that the input spells, which the source held where it tells its bytes
+-- the run is one of the small module that the input spells, which the source held where it tells its bytes
 pub record IsRunOfInput (left : Option (List ℕ)) (run : RunRecord) : Type 0 where
   pub bytes : List ℕ
   pub small : Module
   pub held : Held left (λ held. held ≡ bytes)
-  pub spelled : Spells bytes small
+  pub spelled : SpellsSmall bytes small
   pub run_of : IsRunOfModule small run
 
 -- the status of a run that was reported: 3 where a thread trapped, and else 0

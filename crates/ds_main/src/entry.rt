@@ -2,49 +2,30 @@
 
 ghost use Rattle.std.specs.Prelude.{◌≡◌, ◌⊎◌, ℕ, List, [], Some};
 ghost use Rattle.std.specs.Option.{option_map};
+ghost use Rattle.ds_ast.specs.declared.module.Module.{Module};
 ghost use Rattle.ds_io.specs.Counts.{Rose};
 ghost use Rattle.ds_io.specs.Sink.{Takes, TakesFront};
+ghost use Rattle.ds_print.specs.Canonical.{canon};
 ghost use Rattle.ds_report.specs.declared.fault.Fault.{Fault};
 ghost use Rattle.ds_report.specs.Fault.{fault_text};
 ghost use Rattle.ds_report.specs.Report.{IsReport};
-ghost use Rattle.ds_main.specs.Job.{texts, HasJob, NoJob};
-ghost use Rattle.ds_main.specs.Input.{Held, IsAccepted, IsRefused};
+ghost use Rattle.ds_main.specs.declared.job.Job.{Job};
+ghost use Rattle.ds_main.specs.Job.{texts, IsJob, HasJob, NoJob};
+ghost use Rattle.ds_main.specs.Input.{Held, IsAccepted, IsRefused, IsModuleOfInput};
 ghost use Rattle.ds_main.specs.Run.{IsEmpty, IsRunOfInput, run_status, IsRunStatus};
-ghost use Rattle.ds_main.specs.Ending.{Call, Ends, ReplayEnds, status_of, IsDue, IsDueText, IsCutShort, IsFaultStatus, IsStatus};
+ghost use Rattle.ds_main.specs.Ending.{Call, Ends, status_of, IsDue, IsDueText, IsCutShort, IsFaultStatus, IsStatus};
 
+use crate::instrument::instrument;
 use crate::job::{Job, read_words};
 use crate::pace::Pace;
-use crate::refuse::{out_of_memory, refuse};
-use crate::run::run_and_report;
+use crate::refuse::refuse;
+use crate::replay::replay;
 use ds_core::Ended;
-use ds_io::{ReadAllFault, Sink, Source, read_all};
-use ds_lex::tokens_or_fault;
-use ds_parse::{ParseFault, parse};
+use ds_io::{Sink, Source};
+use ds_parse::{texts_are_not_refused, texts_spell_one_module};
 use ds_report::Fault;
 use std::alloc::Global;
 use std::thread::Threads;
-
-/// The most bytes that an input may have.
-const LONGEST_INPUT: usize = 8_388_608;
-
-/// Reads a module, runs it and reports the run.
-fn replay<S: Source, K: Sink>(alloc: Global, source: &mut S, sink: &mut K) -> Ended
-    ensures { ReplayEnds (S.left source.old) (S.left source.new) (S.faults source.old) (S.faults source.new)
-        (K.taken sink.old) (K.taken sink.new) (K.faults sink.old) (K.faults sink.new) result.status result.run }
-{
-    let bytes = match read_all(alloc, source, LONGEST_INPUT) {
-        Ok(bytes) => bytes,
-        Err(ReadAllFault::Read) => return refuse(alloc, sink, &Fault::Read),
-        Err(ReadAllFault::TooLong) => return refuse(alloc, sink, &Fault::TooLong),
-        Err(ReadAllFault::Memory) => return out_of_memory(alloc),
-    };
-    match parse(alloc, bytes.as_slice()) {
-        Ok(small) => run_and_report(alloc, sink, &small),
-        Err(ParseFault::Lex(fault)) => refuse(alloc, sink, &Fault::Parse(ParseFault::Lex(fault))),
-        Err(ParseFault::OtherForm) => refuse(alloc, sink, &Fault::Parse(ParseFault::OtherForm)),
-        Err(ParseFault::Memory) => out_of_memory(alloc),
-    }
-}
 
 /// Does the job that has these words.
 fn answer<S: Source, K: Sink>(
@@ -68,21 +49,25 @@ fn answer<S: Source, K: Sink>(
     } in Ends call }
 {
     match read_words(words) {
-        Ok(Job::Replay) => replay(alloc, source, sink),
+        Ok(job) => match job {
+            Job::Replay => replay(alloc, source, sink),
+            Job::Instrument => instrument(alloc, source, sink),
+        },
         Err(_) => refuse(alloc, sink, &Fault::Usage),
     }
 }
 
 /// Does the job that its words ask for, and tells by its result how that went.
 ///
-/// `replay` reads the source to its end, runs the module that its bytes spell, and writes the report of the
-/// run to the sink. It starts no thread, and calls no pace.
+/// Both jobs read the source to its end. `replay` runs the module that its bytes spell, where it has the form that this
+/// stage runs, and writes the report of the run to the sink. `instrument` writes the canonical text of the module. No
+/// thread is started, and no pace is called.
 ///
-/// The status is 0 where the job was done, 3 where it was and a thread trapped, 2 where no job has these
-/// words, 4 where the source failed, 1 where the source held too many bytes or no module, 5 where the sink
-/// failed, and 6 where memory ran out.
-/// With 1, 2 and 4 the line of the fault was written, and nothing was run. With 5 the sink has taken a front
-/// of what was due, and with 6 nothing.
+/// The status is 0 where the job was done, 3 where it was and a thread trapped, 2 where no job has these words, 4 where
+/// the source failed, 1 where the source held too many bytes or no module for the job, 5 where the sink failed, and 6
+/// where memory ran out.
+/// With 1, 2 and 4 the line of the fault was written, and nothing was run. With 5 the sink has taken a front of what was
+/// due, and with 6 nothing.
 pub fn dangsan_main<R: Threads + Sync, S: Source, K: Sink, P: Pace>(
     rt: &R,
     alloc: Global,
@@ -91,16 +76,21 @@ pub fn dangsan_main<R: Threads + Sync, S: Source, K: Sink, P: Pace>(
     sink: &mut K,
     pace: &P,
 ) -> Ended
-    // The main theorem. Where the record is not empty, the input spells a module, at least one order of the
+    // The main theorem. Where the record is not empty, the input spells a module of the stage's form, at least one order of the
     // recorded steps is legal, and every legal order is, without log steps, a run of the plain machine on it.
-    ensures headline { IsEmpty result.run ⊎ (HasJob (texts words.now) × IsRunOfInput (S.left source.old) result.run) }
-    // With status 0 and 3 there is a run, whose status that is, and the sink took its whole report.
-    ensures ran { IsRunStatus result.status → HasJob (texts words.now) × IsRunOfInput (S.left source.old) result.run }
-    ensures reported { IsRunStatus result.status → (text : List ℕ) × IsReport result.run.stops result.run.traces text
+    ensures headline { IsEmpty result.run ⊎ (IsJob (texts words.now) Job.Replay × IsRunOfInput (S.left source.old) result.run) }
+    // With status 0 and 3 of `replay` there is a run, whose status that is, and the sink took its whole report.
+    ensures ran { IsJob (texts words.now) Job.Replay → IsRunStatus result.status → IsRunOfInput (S.left source.old) result.run }
+    ensures reported { IsJob (texts words.now) Job.Replay → IsRunStatus result.status → (text : List ℕ) × IsReport result.run.stops result.run.traces text
         × Takes (K.taken sink.old) text (K.taken sink.new) }
-    ensures read_out { IsRunStatus result.status → S.left source.new ≡ option_map (λ _. []) (S.left source.old) }
     // It is 3 exactly where a thread trapped.
-    ensures run_status { IsRunStatus result.status → result.status ≡ run_status result.run.stops }
+    ensures run_status { IsJob (texts words.now) Job.Replay → IsRunStatus result.status → result.status ≡ run_status result.run.stops }
+    // With status 0 of `instrument` the sink took the whole canonical text of the module that the input spells. It never ends with 3.
+    ensures instrumented { IsJob (texts words.now) Job.Instrument → result.status ≡ 0 → (m : Module) × IsModuleOfInput (S.left source.old) m
+        × Takes (K.taken sink.old) (canon m) (K.taken sink.new) }
+    ensures instrument_status { IsJob (texts words.now) Job.Instrument → result.status ≡ 3 → ⊥ }
+    // The source was then read to its end.
+    ensures read_out { IsRunStatus result.status → S.left source.new ≡ option_map (λ _. []) (S.left source.old) }
 
     // 2: exactly where no job has these words.
     ensures usage { result.status ≡ 2 → NoJob (texts words.now) }
@@ -109,9 +99,9 @@ pub fn dangsan_main<R: Threads + Sync, S: Source, K: Sink, P: Pace>(
     // 4: only where the source failed.
     ensures read_failed { result.status ≡ 4 → HasJob (texts words.now) × Rose (S.faults source.old) (S.faults source.new) }
 
-    // 1: exactly where the source held more than 8,388,608 bytes, bytes with a lexical fault, or bytes that spell no module.
-    ensures refused { result.status ≡ 1 → HasJob (texts words.now) × Held (S.left source.old) IsRefused }
-    ensures refusal_is_told { HasJob (texts words.now) → Held (S.left source.old) (λ bytes. IsRefused bytes →
+    // 1: exactly where the source held more than 8,388,608 bytes, bytes that spell no module, or, for `replay`, a module of another form.
+    ensures refused { result.status ≡ 1 → (job : Job) × IsJob (texts words.now) job × Held (S.left source.old) (IsRefused job) }
+    ensures refusal_is_told { (job : Job) → IsJob (texts words.now) job → Held (S.left source.old) (λ bytes. IsRefused job bytes →
         (result.status ≡ 1) ⊎ ((result.status ≡ 4) × Rose (S.faults source.old) (S.faults source.new)) ⊎ IsCutShort result.status) }
 
     // 1, 2 and 4: the line of the first fault was written, and nothing was run.
@@ -131,14 +121,15 @@ pub fn dangsan_main<R: Threads + Sync, S: Source, K: Sink, P: Pace>(
     // No other status comes.
     ensures statuses { IsStatus result.status }
 
-    // An accepted module is run, unless the source failed or memory ran out.
-    ensures run_is_made { HasJob (texts words.now) → Held (S.left source.old) (λ bytes. IsAccepted bytes →
+    // A module that is accepted for `replay` is run, unless the source failed or memory ran out.
+    ensures run_is_made { IsJob (texts words.now) Job.Replay → Held (S.left source.old) (λ bytes. IsAccepted Job.Replay bytes →
         ¬ Rose (S.faults source.old) (S.faults source.new) → IsEmpty result.run → result.status ≡ 6) }
     // Completeness: where moreover the sink did not fail, the job is done.
-    ensures complete { HasJob (texts words.now) → Held (S.left source.old) (λ bytes. IsAccepted bytes →
+    ensures complete { (job : Job) → IsJob (texts words.now) job → Held (S.left source.old) (λ bytes. IsAccepted job bytes →
         ¬ Rose (S.faults source.old) (S.faults source.new) → ¬ Rose (K.faults sink.old) (K.faults sink.new) →
         IsRunStatus result.status ⊎ (result.status ≡ 6)) }
 {
-    tokens_or_fault();
+    texts_spell_one_module();
+    texts_are_not_refused();
     answer(alloc, words, source, sink)
 }

@@ -1,6 +1,6 @@
 //! The words of the command line.
 
-ghost use Rattle.std.specs.Prelude.{◌≡◌, IfOk, IsErrOf, ◌↔◌};
+ghost use Rattle.std.specs.Prelude.{◌≡◌, ◌∷◌, [], IfOk, IsErrOf, IsTrue, ◌↔◌};
 ghost use Rattle.ds_main.specs.Job.{texts, IsJob, NoJob};
 
 use thiserror::Error;
@@ -10,6 +10,8 @@ use thiserror::Error;
 pub enum Job {
     /// Run the module that the input spells, and report the run.
     Replay,
+    /// Write the canonical text of the module that the input spells.
+    Instrument,
 }
 
 /// Why words ask for nothing.
@@ -20,7 +22,17 @@ pub enum ArgsFault {
     Usage,
 }
 
-/// The job that has these words, which stand behind the program's name: `replay` alone.
+/// Whether the bytes of the only word are these.
+fn is_only_word(words: &[String], word: &[u8]) -> bool
+    ensures { IsTrue result ↔ (texts words.now ≡ word.now ∷ []) }
+{
+    match words {
+        [only] => only.as_bytes() == word,
+        _ => false,
+    }
+}
+
+/// The job that has these words, which stand behind the program's name: `replay` alone, or `instrument` alone.
 ///
 /// # Errors
 ///
@@ -29,8 +41,10 @@ pub fn read_words(words: &[String]) -> Result<Job, ArgsFault>
     ensures job { IfOk result (λ job. IsJob (texts words.now) job) }
     ensures usage { IsErrOf result ArgsFault.Usage ↔ NoJob (texts words.now) }
 {
-    if words.len() == 1 && words[0].as_str() == "replay" {
+    if is_only_word(words, b"replay") {
         Ok(Job::Replay)
+    } else if is_only_word(words, b"instrument") {
+        Ok(Job::Instrument)
     } else {
         Err(ArgsFault::Usage)
     }

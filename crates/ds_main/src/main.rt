@@ -1,17 +1,22 @@
-//! The program `dangsan`: runs a module of threads and memory on shared words, and reports what happened.
+//! The program `dangsan`: reads a module, and writes its canonical text, or runs it on shared words and reports what happened.
 #![tactic(auto)]
 
 mod deliver;
 mod entry;
+mod input;
+mod instrument;
 mod job;
 mod pace;
 mod refuse;
+mod replay;
 mod run;
 
 use ds_io::{StdSink, StdSource};
 
 #[cfg(test)]
 mod tests;
+#[cfg(test)]
+mod text_tests;
 
 pub use entry::dangsan_main;
 pub use job::{ArgsFault, Job, read_words};

@@ -4,8 +4,10 @@ ghost use Rattle.std.specs.Prelude.{◌≡◌, ◌⊎◌};
 ghost use Rattle.ds_report.specs.Fault.{fault_text};
 ghost use Rattle.ds_main.specs.Run.{IsEmpty};
 ghost use Rattle.ds_main.specs.Ending.{status_of, Delivers, Unwritten};
+ghost use Rattle.ds_main.specs.Stopped.{StoppedBy};
 
 use crate::deliver::{OUT_OF_MEMORY, deliver};
+use crate::input::NoModule;
 use ds_core::{Ended, RunRecord};
 use ds_io::Sink;
 use ds_report::{Fault, fault_line};
@@ -18,7 +20,7 @@ fn status_by(fault: &Fault) -> u8
     match fault {
         Fault::Usage => 2,
         Fault::Read => 4,
-        Fault::TooLong | Fault::Parse(_) => 1,
+        Fault::TooLong | Fault::Parse(_) | Fault::OtherForm => 1,
     }
 }
 
@@ -45,5 +47,16 @@ pub fn refuse<K: Sink>(alloc: Global, sink: &mut K, fault: &Fault) -> Ended
             run: RunRecord::empty(alloc),
         },
         Err(_) => out_of_memory(alloc),
+    }
+}
+
+/// Ends a call whose input gives no module: the line of its fault is written, if it has one, and nothing is run.
+pub fn stop<K: Sink>(alloc: Global, sink: &mut K, why: &NoModule) -> Ended
+    ensures told { StoppedBy why.now (K.taken sink.old) (K.taken sink.new) (K.faults sink.old) (K.faults sink.new) result.status }
+    ensures empty { IsEmpty result.run }
+{
+    match why {
+        NoModule::Refused(fault) => refuse(alloc, sink, fault),
+        NoModule::Memory => out_of_memory(alloc),
     }
 }

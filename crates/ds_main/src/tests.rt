@@ -32,10 +32,10 @@ main returned; prints 4 mallocs 0 frees 0 notes 0 marks 0 traps 0
 ";
 
 /// No call has this number.
-const NEVER: u32 = u32::MAX;
+pub const NEVER: u32 = u32::MAX;
 
 /// A whole call on a text, of whose reads and writes the ones of these numbers fail, and what the sink took.
-fn run_on(
+pub fn run_on(
     rt: &(impl Threads + Sync + AllocGlobal),
     word: &str,
     text: &[u8],
@@ -90,7 +90,7 @@ fn reports_the_example_in_pieces_of_any_size(rt: HostRuntime) -> Result<(), Fail
 
 #[test]
 fn loads_stores_and_traps(rt: HostRuntime) -> Result<(), Fail> {
-    let cases: [(&[u8], u8, &[u8]); 3] = [
+    let cases: [(&[u8], u8, &[u8]); 4] = [
         (
             b"@g = global i64 5
 define void @main() {
@@ -112,6 +112,14 @@ declare void @print_i64(i64)",
 main trapped; prints 0 mallocs 0 frees 0 notes 0 marks 0 traps 1\n",
         ),
         (
+            b"declare dso_local void @print_i64(i64 noundef) #1
+define void @main() #0 { entry: %a = load i64, ptr @\"\\67\", align 8 store i64 %a, ptr @g
+call void @print_i64(i64 %a) ret void, !dbg !3 }
+@g = internal constant i64 7, align 8 !0 = !{}",
+            0,
+            b"7\nmain returned; prints 1 mallocs 0 frees 0 notes 0 marks 0 traps 0\n",
+        ),
+        (
             b"define void @main() { call void @print_i64(i64 7) %a = load i64, ptr null ret void }
 declare void @print_i64(i64)",
             3,
@@ -128,28 +136,6 @@ main trapped; prints 1 mallocs 0 frees 0 notes 0 marks 0 traps 1\n",
 }
 
 #[test]
-fn refuses_texts_with_a_lexical_fault(rt: HostRuntime) -> Result<(), Fail> {
-    let cases: [(&[u8], &[u8]); 6] = [
-        (b"?", b"error: bad byte at 0\n"),
-        (b"% ", b"error: bad name at 0\n"),
-        (b"12ab", b"error: bad number at 0\n"),
-        (b"source_filename = \"a.c", b"error: open text at 22\n"),
-        (b"define void @main() \xff\x00", b"error: bad byte at 20\n"),
-        (
-            b"@g = global i64 18446744073709551616 ?",
-            b"error: bad number at 16\n",
-        ),
-    ];
-    for (text, taken) in cases {
-        let (ended, sink) = run_on(&rt, "replay", text, 4096, (NEVER, NEVER), 256)?;
-        assert_eq!(rt; ended.status, 1);
-        assert_eq!(rt; sink.taken(), taken);
-        assert!(rt; ended.run.stops.as_slice().is_empty());
-    }
-    Ok(())
-}
-
-#[test]
 fn refuses_modules_of_another_form(rt: HostRuntime) -> Result<(), Fail> {
     let texts: [&[u8]; 6] = [
         b"define void @main() { %a = load i64, ptr @g ret void } declare void @print_i64(i64)",
@@ -158,7 +144,7 @@ declare void @print_i64(i64)",
         b"@main = global i64 1 define void @main() { ret void } declare void @print_i64(i64)",
         b"@print_i64 = global i64 1 define void @main() { ret void } declare void @print_i64(i64)",
         b"@ds_g = global i64 1 define void @main() { ret void } declare void @print_i64(i64)",
-        b"@0 = global i64 1 define void @main() { ret void } declare void @print_i64(i64)",
+        b"%s = type { i64 } define void @main() { ret void } declare void @print_i64(i64)",
     ];
     for text in texts {
         let (ended, sink) = run_on(&rt, "replay", text, 4096, (NEVER, NEVER), 256)?;
@@ -207,7 +193,7 @@ fn tells_each_fault_and_runs_nothing(rt: HostRuntime) -> Result<(), Fail> {
             (NEVER, NEVER),
             256,
             1,
-            b"error: not in this stage's form\n",
+            b"error: syntax at 0\n",
         ),
         ("replay", b"", (NEVER, NEVER), 7, 5, b"error: "),
     ];
@@ -252,7 +238,12 @@ fn refuses_an_input_of_one_byte_too_many(rt: HostRuntime) -> Result<(), Fail> {
 #[test]
 fn reads_the_words_of_a_job(rt: HostRuntime) -> Result<(), Fail> {
     let replay = vec![in rt.alloc(); String::from_str(rt.alloc(), "replay")?]?;
+    let instrument = vec![in rt.alloc(); String::from_str(rt.alloc(), "instrument")?]?;
     assert_eq!(rt; read_words(replay.as_slice()).ok(), Some(Job::Replay));
+    assert_eq!(rt;
+        read_words(instrument.as_slice()).ok(),
+        Some(Job::Instrument)
+    );
     assert_eq!(rt; read_words(&[]).err(), Some(ArgsFault::Usage));
     FreePace.enter(15);
     Ok(())

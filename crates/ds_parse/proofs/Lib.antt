@@ -1,9 +1,3 @@
-pub mod Spans
-pub mod Steps
-pub mod SoFar
-pub mod NamesIn
-pub mod InstructionAt
-pub mod GlobalAt
-pub mod WellFormed
-pub mod Modules
-pub mod Causes
+pub mod Runs
+pub mod Parsing
+pub mod Texts

@@ -1,15 +1,11 @@
-//! From the text of a module to its globals and instructions.
+//! From the text of a module to the module.
 #![tactic(auto)]
 
-mod fault;
-mod globals;
-mod instructions;
-mod lexemes;
-mod names;
+mod entities;
+mod laws;
+mod lines;
 mod parser;
+mod parts;
 
-pub use fault::ParseFault;
+pub use laws::{texts_are_not_refused, texts_spell_one_module};
 pub use parser::parse;
-
-#[cfg(test)]
-mod tests;

@@ -1,104 +1,71 @@
-//! From the text of a module to its globals and instructions.
-ghost use Rattle.std.specs.Prelude.{◌≡◌, ◌≤◌, ◌⊎◌, length, count_by, Err, IfOk, IfErr, MatchResult};
-ghost use Rattle.ds_lex.specs.declared.fault.LexFault.{LexFault};
-ghost use Rattle.ds_lex.specs.Fault.{HasFault};
+//! The module of a text.
+ghost use Rattle.std.specs.Prelude.{◌≡◌, ◌≤◌, ◌<◌, ◌⊎◌, length, IfOk, IfErr, MatchResult};
+ghost use Rattle.ds_ast.specs.declared.module.Module.{Module};
 ghost use Rattle.ds_lex.specs.Lexed.{Lexed};
-ghost use Rattle.ds_parse.specs.Form.{Form, lexemes, Text, IsOtherForm};
-ghost use Rattle.ds_small.specs.Module.{Module, IsWellFormed, is_load};
+ghost use Rattle.ds_grammar.specs.Lexemes.{lexemes_from};
+ghost use Rattle.ds_grammar.specs.Parsed.{SpellWhole, RefuseWhole, Settles, whole_answer};
+ghost use Rattle.ds_grammar.specs.Reading.{value_at};
+ghost use Rattle.ds_grammar.specs.Functions.{module_text, Text};
+ghost use Rattle.ds_parse.specs.Faults.{HasParseFault, parse_fault};
 
-use crate::fault::ParseFault;
-use crate::globals::globals;
-use crate::instructions::instructions;
-use crate::lexemes::prefix;
-use ds_lex::{Token, TokenKind, lex};
-use ds_small::{Small, SmallOp};
+use crate::entities::module_parts;
+use ds_ast::Module;
+use ds_grammar::{ParseFault, tokens_lie_inside, whole_answers_are_exact};
+use ds_lex::{LexFault, Tokens, lex, tokens_are_unique};
+use ds_reader::Rest;
 use std::alloc::Global;
-use std::collections::BTreeMap;
 
-/// How many loads a module has at most.
-const MAX_LOADS: usize = 65_536;
-
-/// What stands before the instructions: `define void @main() {`.
-const OPENING: [(TokenKind, &[u8]); 6] = [
-    (TokenKind::Word, b"define"),
-    (TokenKind::Word, b"void"),
-    (TokenKind::Global, b"@main"),
-    (TokenKind::Punct, b"("),
-    (TokenKind::Punct, b")"),
-    (TokenKind::Punct, b"{"),
-];
-
-/// What stands behind the instructions: `ret void } declare void @print_i64(i64)` and the end.
-const CLOSING: [(TokenKind, &[u8]); 10] = [
-    (TokenKind::Word, b"ret"),
-    (TokenKind::Word, b"void"),
-    (TokenKind::Punct, b"}"),
-    (TokenKind::Word, b"declare"),
-    (TokenKind::Word, b"void"),
-    (TokenKind::Global, b"@print_i64"),
-    (TokenKind::Punct, b"("),
-    (TokenKind::Word, b"i64"),
-    (TokenKind::Punct, b")"),
-    (TokenKind::End, b""),
-];
-
-/// The module that a text of at most 8,388,608 bytes spells: at most 4,096 globals, a function `main` of at most
-/// 199,999 instructions beside its return, of which at most 65,536 are loads, and the declaration of `print_i64`.
-/// Each name is defined once and before it is used.
+/// The module that a text of at most 8,388,608 bytes spells.
 ///
-/// `Lex` comes exactly where the text has a lexical fault, and names it. `OtherForm` comes exactly where the text has
-/// tokens and spells no such module. `Memory` comes where there is not enough memory for its tokens, its names or
-/// its instructions.
-pub fn parse(alloc: Global, text: &[u8]) -> Result<Small, ParseFault>
+/// `Ok` comes exactly where the text spells a module within its bounds. `Lex` names the text's lexical fault, which comes first. Else the fault is
+/// that of the tokens before the first dead end, which is the first token such that no module begins with the tokens up to it: the
+/// least place decides. `Expected` and `Unsupported` stand at the dead end, `Range` at a number that is out of its range, `DeepType` at a type
+/// or an initialiser that nests too deep. `Memory` comes where there is not enough memory.
+pub fn parse(alloc: Global, text: &[u8]) -> Result<Module, ParseFault>
     requires { length text.now ≤ 8388608 }
-    ensures spelled { IfOk result (λ small. Text text.now small) }
-    ensures well_formed { IfOk result (λ small. IsWellFormed small) }
+    ensures spelled { IfOk result (λ m. Text text.now m) }
     // A text spells one module at most, and each text that spells one is read, if there is memory.
-    ensures only { (small : Module) → Text text.now small →
-        MatchResult result (λ found. found ≡ small) (λ fault. fault ≡ ParseFault.Memory) }
-    ensures lexical { (fault : LexFault) → result ≡ Err (ParseFault.Lex fault) → HasFault text.now fault }
-    ensures only_lexical { (fault : LexFault) → HasFault text.now fault →
-        (result ≡ Err (ParseFault.Lex fault)) ⊎ (result ≡ Err ParseFault.Memory) }
-    ensures other_form { result ≡ Err ParseFault.OtherForm → IsOtherForm text.now }
-    ensures only_other_form { IsOtherForm text.now → (result ≡ Err ParseFault.OtherForm) ⊎ (result ≡ Err ParseFault.Memory) }
+    ensures only { (m : Module) → Text text.now m → MatchResult result (λ found. found ≡ m) (λ f. f ≡ ParseFault.Memory) }
+    ensures refused { IfErr result (λ f. (f ≡ ParseFault.Memory) ⊎ HasParseFault text.now f) }
 {
-    let tokens = lex(alloc, text)?;
-    module(alloc, text, tokens.as_slice())
-}
-
-/// The module with these tokens.
-fn module(alloc: Global, text: &[u8], tokens: &[Token]) -> Result<Small, ParseFault>
-    requires { Lexed text.now tokens.now }
-    ensures form { IfOk result (λ small. Form (lexemes text.now tokens.now) small) }
-    ensures faults { IfErr result (λ fault. (fault ≡ ParseFault.OtherForm) ⊎ (fault ≡ ParseFault.Memory)) }
-    ensures only { (small : Module) → Form (lexemes text.now tokens.now) small →
-        MatchResult result (λ found. found ≡ small) (λ fault. fault ≡ ParseFault.Memory) }
-{
-    let mut names = BTreeMap::new(alloc);
-    let Ok((values, opening)) = globals(alloc, text, tokens, &mut names) else {
-        return Err(ParseFault::Memory);
-    };
-    let body = prefix(text, tokens, opening, &OPENING).ok_or(ParseFault::OtherForm)?;
-    let Ok((code, end)) = instructions(alloc, text, tokens, body, &names) else {
-        return Err(ParseFault::Memory);
-    };
-    let _behind = prefix(text, tokens, end, &CLOSING).ok_or(ParseFault::OtherForm)?;
-    if loads(&code) > MAX_LOADS {
-        return Err(ParseFault::OtherForm);
+    tokens_are_unique();
+    match lex(alloc, text) {
+        Ok(tokens) => module_of(alloc, text, &tokens),
+        Err(fault) => Err(lexical(fault)),
     }
-    Ok(Small::new(values, code))
 }
 
-/// How many of the instructions are loads.
-fn loads(code: &[SmallOp]) -> usize
-    ensures { result ≡ count_by is_load code.now }
+/// The fault of the parser by that of the lexer.
+fn lexical(fault: LexFault) -> ParseFault
+    ensures { result ≡ parse_fault fault }
 {
-    code.iter().filter(|op| is_load(**op)).count()
+    match fault {
+        LexFault::BadByte { at } => ParseFault::Lex(LexFault::BadByte { at }),
+        LexFault::BadName { at } => ParseFault::Lex(LexFault::BadName { at }),
+        LexFault::BadNumber { at } => ParseFault::Lex(LexFault::BadNumber { at }),
+        LexFault::OpenText { at } => ParseFault::Lex(LexFault::OpenText { at }),
+        LexFault::Memory => ParseFault::Memory,
+    }
 }
 
-/// Whether an instruction is a load.
-fn is_load(op: SmallOp) -> bool
-    ensures { result ≡ is_load op }
+/// The module of a text that has these tokens.
+fn module_of(alloc: Global, text: &[u8], tokens: &Tokens) -> Result<Module, ParseFault>
+    requires small { length text.now ≤ 8388608 }
+    requires lexed { Lexed text.now tokens.now }
+    ensures spelled { IfOk result (λ m. SpellWhole module_text (lexemes_from text.now tokens.now 0) m) }
+    ensures only { (m : Module) → SpellWhole module_text (lexemes_from text.now tokens.now 0) m → MatchResult result (λ found. found ≡ m) (λ f. f ≡ ParseFault.Memory) }
+    ensures refused { IfErr result (λ f. (f ≡ ParseFault.Memory) ⊎ RefuseWhole module_text (lexemes_from text.now tokens.now 0) (length text.now) f) }
 {
-    matches!(op, SmallOp::Load { .. })
+    tokens_lie_inside();
+    whole_answers_are_exact();
+    let all = tokens.as_slice();
+    whole_module(alloc, Rest::new(text, &all[..all.len() - 1]))
+}
+
+/// The module that all these tokens spell, with all marks.
+fn whole_module(alloc: Global, rest: Rest<'_>) -> Result<Module, ParseFault>
+    ensures { Settles result (whole_answer (value_at module_text rest.entry)) }
+{
+    let (parts, rest) = module_parts(alloc, rest)?;
+    rest.finish_whole(parts.into_module())
 }

@@ -4,8 +4,8 @@ ghost use Rattle.std.specs.Prelude.{◌≡◌, ◌++◌, OnOk, IfOk};
 ghost use Rattle.ds_report.specs.Fault.{place_text, lexical_text, parse_text, fault_text};
 
 use crate::text::{push, push_number};
+use ds_grammar::ParseFault;
 use ds_lex::LexFault;
-use ds_parse::ParseFault;
 use std::alloc::{AllocError, Global};
 
 /// What was refused, in the order in which it is looked for.
@@ -17,9 +17,11 @@ pub enum Fault {
     Read,
     /// The input has more than 8,388,608 bytes.
     TooLong,
-    /// The input spells no module of the form that this stage runs. Want of memory is no such fault: it is told by the
-    /// status of the call alone, and has no line.
+    /// The input spells no module. Want of memory is no such fault: it is told by the status of the call alone, and has
+    /// no line.
     Parse(ParseFault),
+    /// The module is not of the form that this stage runs.
+    OtherForm,
 }
 
 /// The line that tells a fault, with its line feed. Want of memory has none.
@@ -32,6 +34,7 @@ pub fn fault_line(alloc: Global, fault: &Fault) -> Result<Vec<u8>, AllocError>
         Fault::Read => push(&mut line, b"error: read failed\n")?,
         Fault::TooLong => push(&mut line, b"error: input longer than 8388608 bytes\n")?,
         Fault::Parse(fault) => push_parse_fault(&mut line, fault)?,
+        Fault::OtherForm => push(&mut line, b"error: not in this stage's form\n")?,
     }
     Ok(line)
 }
@@ -42,7 +45,10 @@ fn push_parse_fault(line: &mut Vec<u8>, fault: &ParseFault) -> Result<(), AllocE
 {
     match fault {
         ParseFault::Lex(fault) => push_lexical_fault(line, fault),
-        ParseFault::OtherForm => push(line, b"error: not in this stage's form\n"),
+        ParseFault::Expected { at } => push_place(line, b"syntax", *at),
+        ParseFault::Unsupported { at } => push_place(line, b"unsupported", *at),
+        ParseFault::Range { at } => push_place(line, b"out of range", *at),
+        ParseFault::DeepType { at } => push_place(line, b"type too deep", *at),
         ParseFault::Memory => Ok(()),
     }
 }

@@ -1,7 +1,7 @@
 use crate::{Fault, fault_line, render};
 use ds_core::replay_small;
+use ds_grammar::ParseFault;
 use ds_lex::LexFault;
-use ds_parse::ParseFault;
 use ds_small::{Small, SmallAddress, SmallOp, SmallValue};
 use std::test::Fail;
 
@@ -53,7 +53,7 @@ fn tells_each_fault(rt: HostRuntime) -> Result<(), Fail> {
     let bad_name = Fault::Parse(ParseFault::Lex(LexFault::BadName { at: 10 }));
     let bad_number = Fault::Parse(ParseFault::Lex(LexFault::BadNumber { at: 8_388_607 }));
     let open_text = Fault::Parse(ParseFault::Lex(LexFault::OpenText { at: 22 }));
-    let other_form = Fault::Parse(ParseFault::OtherForm);
+    let other_form = Fault::OtherForm;
     let cases = [
         (Fault::Usage, "error: usage\n"),
         (Fault::Read, "error: read failed\n"),

@@ -1,16 +1,14 @@
-use Rattle.std.proofs.Common.{rules, ◌≡◌, [], ◌∷◌, codes, sym, ◌∙◌}
-use Rattle.ds_main.specs.declared.job.Job.TheVariants.{Replay}
+use Rattle.std.proofs.Common.{◌≡◌, [], ◌∷◌, codes}
+use Rattle.ds_main.specs.declared.job.Job.TheVariants.{Replay, Instrument}
 use Rattle.ds_main.specs.Job.{texts}
-use Rattle.ds_main.proofs.Words.{one_word}
 use Rattle.ds_main.proofs.job.read_words.Goals as goal
 
-pub returns-then-eq-clause-job : goal.returns-then-eq-clause-job
-returns-then-eq-clause-job c =
-    let same : c.as_str.result.now ≡ codes "replay" = search rules in
-    one_word c.args.words.now c.index-words-0.result _ c.if-words-eq1.true c.index-words-0.is (sym c.as_str.ensures.value ∙ same)
+pub returns-then-is_only_word-clause-usage : goal.returns-then-is_only_word-clause-usage
+returns-then-is_only_word-clause-usage c =
+    let words : texts c.args.words.now ≡ codes "replay" ∷ [] = c.is_only_word.ensures.0 c.if-is_only_word.true in
+    ((λ e. absurd (cc e)), (λ no. absurd (no Replay words)))
 
-pub returns-then-eq-clause-usage : goal.returns-then-eq-clause-usage
-returns-then-eq-clause-usage c =
-    let same : c.as_str.result.now ≡ codes "replay" = search rules in
-    let words : texts c.args.words.now ≡ codes "replay" ∷ [] = one_word c.args.words.now c.index-words-0.result _ c.if-words-eq1.true c.index-words-0.is (sym c.as_str.ensures.value ∙ same) in
-    ((λ e. absurd (cc)), (λ no. absurd (no Replay words)))
+pub returns-then-is_only_word-2-clause-usage : goal.returns-then-is_only_word-2-clause-usage
+returns-then-is_only_word-2-clause-usage c =
+    let words : texts c.args.words.now ≡ codes "instrument" ∷ [] = c.is_only_word-else-is_only_word.ensures.0 c.if-is_only_word-2.true in
+    ((λ e. absurd (cc e)), (λ no. absurd (no Instrument words)))

@@ -1,0 +1,30 @@
+//! The job `instrument`: writes the canonical text of the module of the input.
+
+ghost use Rattle.std.specs.Prelude.{◌≡◌};
+ghost use Rattle.ds_main.specs.Ending.{InstrumentEnds};
+
+use crate::deliver::{DONE, deliver};
+use crate::input::read_module;
+use crate::refuse::{out_of_memory, stop};
+use ds_core::{Ended, RunRecord};
+use ds_io::{Sink, Source};
+use ds_print::print;
+use std::alloc::Global;
+
+/// Reads a module and writes its canonical text.
+pub fn instrument<S: Source, K: Sink>(alloc: Global, source: &mut S, sink: &mut K) -> Ended
+    ensures { InstrumentEnds (S.left source.old) (S.left source.new) (S.faults source.old) (S.faults source.new)
+        (K.taken sink.old) (K.taken sink.new) (K.faults sink.old) (K.faults sink.new) result.status result.run }
+{
+    let module = match read_module(alloc, source) {
+        Ok(module) => module,
+        Err(why) => return stop(alloc, sink, &why),
+    };
+    match print(alloc, &module) {
+        Ok(text) => Ended {
+            status: deliver(sink, text.as_slice(), DONE),
+            run: RunRecord::empty(alloc),
+        },
+        Err(_) => out_of_memory(alloc),
+    }
+}
