@@ -1,0 +1,26 @@
+-- The statements of the laws.
+use Rattle.std.specs.Prelude.{◌≡◌, ◌<◌, ℕ, List, length}
+use Rattle.ds_ast.specs.declared.name.Name.{Name}
+use Rattle.ds_ast.specs.declared.ty.Ty.{Ty}
+use Rattle.ds_ast.specs.declared.module.Module.{Module}
+use Rattle.ds_ast.specs.declared.module.StructDef.{StructDef}
+use Rattle.ds_shape.specs.Sizes.{Extent, HasExtent, HasOffset}
+use Rattle.ds_shape.specs.Written.{Line, lines_of}
+use Rattle.ds_shape.specs.Types.{Stands}
+use Rattle.ds_shape.specs.Accepted.{HasLayout}
+
+-- a type has at most one extent
+abbrev pub ExtentsAreUnique : Type 0
+ExtentsAreUnique = (structs : List StructDef) (t : Ty) (e f : Extent) → HasExtent structs t e → HasExtent structs t f → e ≡ f
+
+-- a field has at most one offset
+abbrev pub OffsetsAreUnique : Type 0
+OffsetsAreUnique = (structs : List StructDef) (name : Name) (n a b : ℕ) → HasOffset structs name n a → HasOffset structs name n b → a ≡ b
+
+-- in a module that has a layout each type that is written has an extent
+abbrev pub ExtentsExist : Type 0
+ExtentsExist = (m : Module) (l : Line) (t : Ty) → HasLayout m → Stands l (lines_of m) → Stands t l.types → (e : Extent) × HasExtent m.structs t e
+
+-- and each field of a struct has an offset
+abbrev pub OffsetsExist : Type 0
+OffsetsExist = (m : Module) (s : StructDef) (n : ℕ) → HasLayout m → Stands s m.structs → n < length s.fields → (offset : ℕ) × HasOffset m.structs s.name n offset

@@ -1,0 +1,302 @@
+-- The types of values in a function, and which instructions keep the rules of types.
+use Rattle.std.specs.Prelude.{◌≡◌, ℕ, zero, suc, ◌<◌, ◌⊎◌, List, [], ◌∷◌, ◌++◌, length, map, flat_map, Option, Some, None, All, IfSome, codes}
+use Rattle.ds_ast.specs.declared.name.Name.{Name}
+use Rattle.ds_ast.specs.declared.name.Name.TheVariants.{Text}
+use Rattle.ds_ast.specs.declared.ty.Scalar.{Scalar}
+use Rattle.ds_ast.specs.declared.ty.Scalar.TheVariants.{I1, I8, I16, I32, I64, Ptr}
+use Rattle.ds_ast.specs.declared.ty.Ty.{Ty, Void, One, Struct, Array', more_of-Ty, end_of-Ty}
+use Rattle.ds_ast.specs.declared.value.Value.{Value}
+use Rattle.ds_ast.specs.declared.value.Value.TheVariants.{Int, Null, Undef, Local, Global}
+use Rattle.ds_ast.specs.declared.operand.Operand.{Operand}
+use Rattle.ds_ast.specs.declared.operand.Arm.{Arm}
+use Rattle.ds_ast.specs.declared.words.BinOp.{BinOp}
+use Rattle.ds_ast.specs.declared.words.BinOp.TheVariants as bin
+use Rattle.ds_ast.specs.declared.words.CastOp.{CastOp}
+use Rattle.ds_ast.specs.declared.words.CastOp.TheVariants as cast
+use Rattle.ds_ast.specs.declared.words.RmwOp.TheVariants as rmw
+use Rattle.ds_ast.specs.declared.instr.Op.{Op}
+use Rattle.ds_ast.specs.declared.instr.Op.TheVariants.{Bin, Icmp, Select, Cast, Alloca, Load, Store, Gep, Call, Phi, Rmw, Cmpxchg, Extract, Fence, Ret, Br, CondBr, Switch, Unreachable}
+use Rattle.ds_ast.specs.declared.instr.Instr.{Instr}
+use Rattle.ds_ast.specs.declared.init.Init.{Init, Zero, Word, Array', Fields', Row_of-Init, end_of-Init, more_of-Init}
+use Rattle.ds_ast.specs.declared.module.Module.{Module}
+use Rattle.ds_ast.specs.declared.module.GlobalDef.{GlobalDef}
+use Rattle.ds_ast.specs.declared.module.Function.{Function}
+use Rattle.ds_ast.specs.declared.module.Param.{Param}
+use Rattle.ds_ast.specs.declared.module.Block.{Block}
+use Rattle.ds_ast.specs.Bounds.{width, fields_of}
+use Rattle.ds_shape.specs.Written.{Among}
+
+-- LISTS
+
+-- the item stands in the list
+abbrev pub Stands : {A : Type 0} → A → List A → Type 0
+Stands {A} item items = (before : List A) × (after : List A) × (items ≡ before ++ item ∷ after)
+
+-- each item of the first list goes with the one at its place in the other, and both have as many
+abbrev pub Pairwise : {A B : Type 0} → (A → B → Type 0) → List A → List B → Type 0
+Pairwise P [] [] = Unit {0}
+Pairwise P [] (y ∷ ys) = ⊥
+Pairwise P (x ∷ xs) [] = ⊥
+Pairwise P (x ∷ xs) (y ∷ ys) = P x y × Pairwise P xs ys
+
+-- no number stands there twice
+abbrev pub AreDistinctNumbers : List ℕ → Type 0
+AreDistinctNumbers [] = Unit {0}
+AreDistinctNumbers (n ∷ ns) = All (λ m. m ≡ n → ⊥) ns × AreDistinctNumbers ns
+
+-- NAMES
+
+-- the name is this text
+abbrev pub IsCalled : List ℕ → Name → Type 0
+IsCalled bytes name = name ≡ Text bytes
+
+-- a global has the name
+abbrev pub IsGlobal : Module → Name → Type 0
+IsGlobal m name = Among name (map (λ (g : GlobalDef). g.name) m.globals)
+
+-- a function has the name
+abbrev pub IsFunction : Module → Name → Type 0
+IsFunction m name = Among name (map (λ (f : Function). f.name) m.functions)
+
+-- TYPES OF LOCAL VALUES
+
+-- the type of a local value: that of a register, or the pair of a cmpxchg on one
+pub data LocalType : Type 0 where
+  Plain : Scalar → LocalType
+  Pair : Scalar → LocalType
+
+-- the types of the values of a type: none of void, arrays and structs
+abbrev pub register_type : Ty → Option LocalType
+register_type Void = None
+register_type (One s) = Some (Plain s)
+register_type (Array' count _ of) = None
+register_type (Struct name) = None
+
+-- the two parts of a cmpxchg's result: the old value, and whether it exchanged
+abbrev pub part_type : Scalar → ℕ → Scalar
+part_type s zero = s
+part_type s (suc n) = I1
+
+-- the type of an instruction's result, where it has one that a register or a pair holds
+abbrev pub result_type : Op → Option LocalType
+result_type (Bin op s a b) = Some (Plain s)
+result_type (Icmp cond s a b) = Some (Plain I1)
+result_type (Select c s a b) = Some (Plain s)
+result_type (Cast op from a to) = Some (Plain to)
+result_type (Alloca t count) = Some (Plain Ptr)
+result_type (Load s at) = Some (Plain s)
+result_type (Store s v at) = None
+result_type (Gep t base indices) = Some (Plain Ptr)
+result_type (Call t callee args) = register_type t
+result_type (Phi s arms) = Some (Plain s)
+result_type (Rmw op at s v) = Some (Plain s)
+result_type (Cmpxchg at s expected new) = Some (Pair s)
+result_type (Extract s of index) = Some (Plain (part_type s index))
+result_type Fence = None
+result_type (Ret v) = None
+result_type (Br l) = None
+result_type (CondBr c l k) = None
+result_type (Switch s v other cases) = None
+result_type Unreachable = None
+
+-- the instructions of a function in the order of the text
+abbrev pub instructions_of : Function → List Instr
+instructions_of f = flat_map (λ (b : Block). b.code) f.blocks
+
+-- a parameter or an instruction defines the name with this type
+abbrev pub Defines : Function → Name → Option LocalType → Type 0
+Defines f name t =
+    ((p : Param) × Stands p f.params × (p.name ≡ name) × (t ≡ Some (Plain p.ty)))
+    ⊎ ((i : Instr) × Stands i (instructions_of f) × (i.result ≡ Some name) × (t ≡ result_type i.op))
+
+-- VALUES
+
+-- integers, and those of 8 bits or more
+abbrev pub IsInteger : Scalar → Type 0
+IsInteger I1 = Unit {0}
+IsInteger I8 = Unit {0}
+IsInteger I16 = Unit {0}
+IsInteger I32 = Unit {0}
+IsInteger I64 = Unit {0}
+IsInteger Ptr = ⊥
+
+abbrev pub IsWide : Scalar → Type 0
+IsWide I1 = ⊥
+IsWide I8 = Unit {0}
+IsWide I16 = Unit {0}
+IsWide I32 = Unit {0}
+IsWide I64 = Unit {0}
+IsWide Ptr = ⊥
+
+-- the type is that of words in memory: no truth value is loaded or stored
+abbrev pub IsStored : Scalar → Type 0
+IsStored s = s ≡ I1 → ⊥
+
+module _ (m : Module) (f : Function) where
+  -- the value has the type: a number any integer, null that of addresses, undef any, a local that of its definition, a global's name that of addresses; no
+  -- function's name is a value
+  abbrev pub HasType : Scalar → Value → Type 0
+  HasType s (Int n) = IsInteger s
+  HasType s Null = s ≡ Ptr
+  HasType s Undef = Unit {0}
+  HasType s (Local name) = Defines f name (Some (Plain s))
+  HasType s (Global name) = (s ≡ Ptr) × IsGlobal m name
+
+  abbrev pub IsTypedOperand : Operand → Type 0
+  IsTypedOperand o = HasType o.ty o.value
+
+  -- INSTRUCTIONS
+
+  -- the operation is one of bits, which truth values have
+  abbrev pub IsBitwise : BinOp → Type 0
+  IsBitwise op = (op ≡ bin.And) ⊎ ((op ≡ bin.Or) ⊎ (op ≡ bin.Xor))
+
+  -- the conversion goes from the one type to the other
+  abbrev pub Converts : CastOp → Scalar → Scalar → Type 0
+  Converts cast.Zext from to = IsInteger from × IsInteger to × (width from < width to)
+  Converts cast.Sext from to = IsInteger from × IsInteger to × (width from < width to)
+  Converts cast.Trunc from to = IsInteger from × IsInteger to × (width to < width from)
+  Converts cast.PtrToInt from to = (from ≡ Ptr) × IsWide to
+  Converts cast.IntToPtr from to = IsWide from × (to ≡ Ptr)
+
+  -- the type has values
+  abbrev pub IsNoVoid : Ty → Type 0
+  IsNoVoid Void = ⊥
+  IsNoVoid (One s) = Unit {0}
+  IsNoVoid (Array' count _ of) = Unit {0}
+  IsNoVoid (Struct name) = Unit {0}
+
+  -- the field behind so many
+  abbrev pub FieldAt : List Ty → ℕ → Ty → Type 0
+  FieldAt fields n next = (before : List Ty) × (after : List Ty) × (fields ≡ before ++ next ∷ after) × (length before ≡ n)
+
+  -- a type behind one index more: that of an array's elements by any index, that of a struct's field by its number as a literal of i32
+  abbrev pub Steps : Ty → Operand → Ty → Type 0
+  Steps Void index next = ⊥
+  Steps (One s) index next = ⊥
+  Steps (Array' count _ (more_of-Ty of end_of-Ty)) index next = next ≡ of
+  Steps (Struct name) index next =
+      (fields : List Ty) × (n : ℕ) × (fields_of m.structs name ≡ Some fields) × (index.ty ≡ I32) × (index.value ≡ Int n) × FieldAt fields n next
+
+  -- the indices walk into the type
+  abbrev pub Walks : Ty → List Operand → Type 0
+  Walks t [] = Unit {0}
+  Walks t (i ∷ is) = (next : Ty) × Steps t i next × Walks next is
+
+  -- the indices of an address: the first counts whole values of the type, the others walk into it
+  abbrev pub Addresses : Ty → List Operand → Type 0
+  Addresses t [] = Unit {0}
+  Addresses t (i ∷ is) = Walks t is
+
+  -- the argument of a call has the type of the parameter
+  abbrev pub IsArgument : Operand → Param → Type 0
+  IsArgument o p = (o.ty ≡ p.ty) × IsTypedOperand o
+
+  -- the function is what pthread_create starts: ptr (ptr), and defined
+  abbrev pub IsThreadFunction : Function → Type 0
+  IsThreadFunction g = (g.result ≡ One Ptr) × (map (λ (p : Param). p.ty) g.params ≡ Ptr ∷ []) × (g.blocks ≡ [] → ⊥)
+
+  -- the value is the name of such a function
+  abbrev pub IsThreadStart : Value → Type 0
+  IsThreadStart (Int n) = ⊥
+  IsThreadStart Null = ⊥
+  IsThreadStart Undef = ⊥
+  IsThreadStart (Local name) = ⊥
+  IsThreadStart (Global name) = (g : Function) × Stands g m.functions × (g.name ≡ name) × IsThreadFunction g
+
+  -- the function is this external: declared
+  abbrev pub IsExternal : List ℕ → Function → Type 0
+  IsExternal bytes g = IsCalled bytes g.name × (g.blocks ≡ [])
+
+  abbrev pub CreateArguments : List Operand → Type 0
+  CreateArguments (id ∷ attributes ∷ start ∷ argument ∷ []) =
+      (id.ty ≡ Ptr) × IsTypedOperand id × (attributes.ty ≡ Ptr) × (attributes.value ≡ Null) × (start.ty ≡ Ptr) × IsThreadStart start.value × (argument.ty ≡ Ptr) × IsTypedOperand argument
+  CreateArguments other = ⊥
+
+  abbrev pub JoinArguments : List Operand → Type 0
+  JoinArguments (id ∷ result ∷ []) = (id.ty ≡ I64) × IsTypedOperand id × (result.ty ≡ Ptr) × (result.value ≡ Null)
+  JoinArguments other = ⊥
+
+  -- the arguments of pthread_create: where the identifier goes, null, a function and its argument; those of pthread_join: the identifier and null
+  abbrev pub ArePassed : Function → List Operand → Type 0
+  ArePassed g args =
+      (IsExternal (codes "pthread_create") g × CreateArguments args)
+      ⊎ ((IsExternal (codes "pthread_join") g × JoinArguments args)
+      ⊎ ((IsExternal (codes "pthread_create") g → ⊥) × (IsExternal (codes "pthread_join") g → ⊥) × Pairwise IsArgument args g.params))
+
+  -- THE RULE OF EACH INSTRUCTION
+  abbrev pub IsTypedOp : Op → Type 0
+  IsTypedOp (Bin op s a b) = IsInteger s × (s ≡ I1 → IsBitwise op) × HasType s a × HasType s b
+  IsTypedOp (Icmp cond s a b) = HasType s a × HasType s b
+  IsTypedOp (Select c s a b) = HasType I1 c × HasType s a × HasType s b
+  IsTypedOp (Cast op from a to) = Converts op from to × HasType from a
+  IsTypedOp (Alloca t count) = IsNoVoid t × IfSome count (λ o. IsInteger o.ty × IsTypedOperand o)
+  IsTypedOp (Load s at) = IsStored s × HasType Ptr at
+  IsTypedOp (Store s v at) = IsStored s × HasType s v × HasType Ptr at
+  IsTypedOp (Gep t base indices) = IsNoVoid t × HasType Ptr base × All (λ (o : Operand). IsWide o.ty × IsTypedOperand o) indices × Addresses t indices
+  IsTypedOp (Call t callee args) = (g : Function) × Stands g m.functions × (g.name ≡ callee) × (t ≡ g.result) × ArePassed g args
+  IsTypedOp (Phi s arms) = All (λ (a : Arm). HasType s a.value) arms
+  IsTypedOp (Rmw op at s v) = IsStored s × (s ≡ Ptr → op ≡ rmw.Xchg) × HasType Ptr at × HasType s v
+  IsTypedOp (Cmpxchg at s expected new) = IsStored s × HasType Ptr at × HasType s expected × HasType s new
+  IsTypedOp (Extract s of index) = Defines f of (Some (Pair s))
+  IsTypedOp Fence = Unit {0}
+  IsTypedOp (Ret None) = f.result ≡ Void
+  IsTypedOp (Ret (Some o)) = (f.result ≡ One o.ty) × IsTypedOperand o
+  IsTypedOp (Br l) = Unit {0}
+  IsTypedOp (CondBr c l k) = HasType I1 c
+  IsTypedOp (Switch s v other cases) = IsWide s × HasType s v × AreDistinctNumbers (map (λ (c : ℕ × Name). c.0) cases)
+  IsTypedOp Unreachable = Unit {0}
+
+-- INITIALISERS
+
+-- how many elements an array has, and of which type
+abbrev pub array_of : Ty → Option (ℕ × Ty)
+array_of Void = None
+array_of (One s) = None
+array_of (Array' count _ (more_of-Ty of end_of-Ty)) = Some (count, of)
+array_of (Struct name) = None
+
+-- the types of a struct's fields
+abbrev pub struct_fields : Module → Ty → Option (List Ty)
+struct_fields m Void = None
+struct_fields m (One s) = None
+struct_fields m (Array' count _ of) = None
+struct_fields m (Struct name) = fields_of m.structs name
+
+module _ (m : Module) where
+  -- a value in a global has the type: a number any integer, null and the name of a global that of addresses, undef any register's
+  abbrev pub IsConstant : Scalar → Value → Type 0
+  IsConstant s (Int n) = IsInteger s
+  IsConstant s Null = s ≡ Ptr
+  IsConstant s Undef = Unit {0}
+  IsConstant s (Local name) = ⊥
+  IsConstant s (Global name) = (s ≡ Ptr) × IsGlobal m name
+
+  -- a value behind a type: that of a register
+  abbrev pub IsConstantOf : Ty → Value → Type 0
+  IsConstantOf Void v = ⊥
+  IsConstantOf (One s) v = IsConstant s v
+  IsConstantOf (Array' count _ of) v = ⊥
+  IsConstantOf (Struct name) v = ⊥
+
+  abbrev mutual
+    -- the initialiser has the type: zeros have any, an array as many elements as it says, a struct all its fields
+    pub IsInitial : Ty → Init → Type 0
+    IsInitial t Zero = Unit {0}
+    IsInitial t (Word v) = IsConstantOf t v
+    IsInitial t (Array' _ parts) = AreElements (array_of t) parts
+    IsInitial t (Fields' _ parts) = AreFields (struct_fields m t) parts
+
+    -- so many elements of the type
+    pub AreElements : Option (ℕ × Ty) → {m : _} → Row_of-Init m → Type 0
+    AreElements None parts = ⊥
+    AreElements (Some of) end_of-Init = of.0 ≡ 0
+    AreElements (Some of) (more_of-Init part parts) = (n : ℕ) × (of.0 ≡ suc n) × IsInitial of.1 part × AreElements (Some (n, of.1)) parts
+
+    -- one part for each type
+    pub AreFields : Option (List Ty) → {m : _} → Row_of-Init m → Type 0
+    AreFields None parts = ⊥
+    AreFields (Some []) end_of-Init = Unit {0}
+    AreFields (Some []) (more_of-Init part parts) = ⊥
+    AreFields (Some (t ∷ ts)) end_of-Init = ⊥
+    AreFields (Some (t ∷ ts)) (more_of-Init part parts) = IsInitial t part × AreFields (Some ts) parts
