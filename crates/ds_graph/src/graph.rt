@@ -1,0 +1,74 @@
+//! Graphs.
+ghost use Rattle.std.specs.Prelude.{◌≡◌, ◌<◌, [], ◌∷◌, ◌++◌, length, get_or, set, replicate, IfOk, OnOk, OnErr};
+
+use std::alloc::{AllocError, Global};
+use std::marker::Model;
+
+/// A graph on the numbers below its length. Contracts see, for each node from 0 on, the list of nodes to which its edges lead.
+#[derive(Drop)]
+pub struct Graph {
+    edges: Vec<Vec<u32>>,
+}
+
+impl Model for Graph {
+    ghost use Rattle.std.specs.Prelude.{List, ℕ, map};
+
+    ghost Value = { List (List ℕ) };
+
+    ghost view = { λ graph. map (λ row. row.items) graph.edges.items };
+}
+
+impl Graph {
+    /// No nodes.
+    pub fn new(alloc: Global) -> Graph
+        ensures { result ≡ [] }
+    {
+        Graph {
+            edges: Vec::new(alloc),
+        }
+    }
+
+    /// So many nodes with no edges.
+    pub(crate) fn with_nodes(alloc: Global, count: usize) -> Result<Graph, AllocError>
+        ensures { IfOk result (λ graph. graph ≡ replicate count []) }
+    {
+        let mut graph = Graph::new(alloc);
+        for node in 0..count {
+            graph.push(Vec::new(alloc))?;
+        }
+        Ok(graph)
+    }
+
+    /// One edge more.
+    pub(crate) fn add_edge(&mut self, from: usize, to: u32) -> Result<(), AllocError>
+        requires { from < length self.old }
+        ensures { OnOk result (self.new ≡ set self.old from (get_or self.old from [] ++ to ∷ [])) }
+    {
+        self.edges[from].push(to)?;
+        Ok(())
+    }
+
+    /// How many nodes there are.
+    pub fn len(&self) -> usize
+        ensures { result ≡ length self.now }
+    {
+        self.edges.len()
+    }
+
+    /// One node more, with the nodes to which its edges lead. Without memory the nodes stay.
+    pub fn push(&mut self, edges: Vec<u32>) -> Result<(), AllocError>
+        ensures ok { OnOk result (self.new ≡ self.old ++ edges.items ∷ []) }
+        ensures err { OnErr result (self.new ≡ self.old) }
+    {
+        self.edges.push(edges)?;
+        Ok(())
+    }
+
+    /// The nodes to which the edges of this one lead.
+    pub fn edges(&self, node: usize) -> &[u32]
+        requires { node < length self.now }
+        ensures { result.now ≡ get_or self.now node [] }
+    {
+        self.edges[node].as_slice()
+    }
+}
