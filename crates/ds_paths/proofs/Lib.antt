@@ -1,0 +1,4 @@
+pub mod Climbs
+pub mod Dominance
+pub mod Marks
+pub mod Searching
