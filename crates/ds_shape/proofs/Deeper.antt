@@ -9,7 +9,7 @@ use Rattle.ds_shape.specs.Sizes.{Extent, times, rounded, extent_by, fields_exten
 use Rattle.ds_shape.specs.Laws.{ExtentsAreUnique, OffsetsAreUnique}
 
 -- what the one gives the other gives too
-abbrev Keeps : {A B : Type 0} → (A → Option B) → (A → Option B) → Type 0
+abbrev pub Keeps : {A B : Type 0} → (A → Option B) → (A → Option B) → Type 0
 Keeps {A} {B} g h = (x : A) (y : B) → g x ≡ Some y → h x ≡ Some y
 
 keep_map : {A B : Type 0} (f : A → B) (o p : Option A) (y : B) → ((x : A) → o ≡ Some x → p ≡ Some x) → option_map f o ≡ Some y → option_map f p ≡ Some y
@@ -53,12 +53,12 @@ keep_struct structs (suc d) name e is = keep_then
     (keep_extent (struct_extent structs d) (struct_extent structs (suc d)) (keep_struct structs d)) 0 1) is
 
 -- any number of structs deeper
-deeper : (structs : List StructDef) (k d : ℕ) → Keeps (struct_extent structs d) (struct_extent structs (k + d))
+pub deeper : (structs : List StructDef) (k d : ℕ) → Keeps (struct_extent structs d) (struct_extent structs (k + d))
 deeper structs zero d name e is = let h : 0 + d ≡ d = omega arith in rw h is
 deeper structs (suc k) d name e is =
     let h : suc k + d ≡ suc (k + d) = omega arith in rw h (keep_struct structs (k + d) name e (deeper structs k d name e is))
 
-deeper_extent : (structs : List StructDef) (k d : ℕ) → Keeps (extent_by (struct_extent structs d)) (extent_by (struct_extent structs (k + d)))
+pub deeper_extent : (structs : List StructDef) (k d : ℕ) → Keeps (extent_by (struct_extent structs d)) (extent_by (struct_extent structs (k + d)))
 deeper_extent structs k d = keep_extent (struct_extent structs d) (struct_extent structs (k + d)) (deeper structs k d)
 
 pub unique_extents : ExtentsAreUnique
@@ -69,10 +69,10 @@ unique_extents structs t e f (d, p) (c, q) =
     cc
 
 -- the offset of a field of these, at a depth
-abbrev offset_at : List StructDef → Name → ℕ → ℕ → Option ℕ
+abbrev pub offset_at : List StructDef → Name → ℕ → ℕ → Option ℕ
 offset_at structs name n d = option_and_then (field_offset (extent_by (struct_extent structs d)) 0 n) (fields_of structs name)
 
-deeper_offset : (structs : List StructDef) (name : Name) (n k d a : ℕ) → offset_at structs name n d ≡ Some a → offset_at structs name n (k + d) ≡ Some a
+pub deeper_offset : (structs : List StructDef) (name : Name) (n k d a : ℕ) → offset_at structs name n d ≡ Some a → offset_at structs name n (k + d) ≡ Some a
 deeper_offset structs name n k d a is = keep_then
     (field_offset (extent_by (struct_extent structs d)) 0 n)
     (field_offset (extent_by (struct_extent structs (k + d))) 0 n)

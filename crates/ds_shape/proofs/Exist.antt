@@ -1,4 +1,4 @@
--- In a module that has a layout no chain of structs is longer than there are lines, so that each type has an extent.
+-- In a module whose struct types are known and hold themselves nowhere no chain of structs is longer than there are lines, so that each type has an extent.
 use Rattle.std.proofs.Common.{◌≡◌, ◌+◌, ◌<◌, ◌≤◌, ◌++◌, ◌⊎◌, ℕ, zero, suc, Bool, true, false, max, List, [], ◌∷◌, Option, Some, None, refl, sym, ap, ◌∙◌, subst, inl, inr, cond, true≢false, arith}
 use Rattle.std.specs.Prelude.{All, map, flat_map, length, option_map, option_and_then}
 use Rattle.std.proofs.lemmas.List.{append_assoc, length-map}
@@ -13,9 +13,11 @@ use Rattle.ds_ast.specs.declared.module.Module.{Module}
 use Rattle.ds_ast.specs.declared.module.StructDef.{StructDef}
 use Rattle.ds_ast.specs.Bounds.{is_name, fields_of}
 use Rattle.ds_shape.specs.Sizes.{Extent, times, rounded, extent_by, fields_extent, field_offset, struct_extent, HasExtent, HasOffset}
-use Rattle.ds_shape.specs.Written.{Line, struct_line, global_line, function_line, lines_of, struct_in, written_names, struct_names, Among, AreDistinct, IsUnknown, Holds, HoldsThrough, IsRecursive}
+use Rattle.ds_names.specs.Names.{Among, AreDistinct}
+use Rattle.ds_shape.specs.Written.{Line, struct_line, global_line, function_line, lines_of, struct_in, written_names, struct_names, IsUnknown, Holds, HoldsThrough, IsRecursive}
 use Rattle.ds_shape.specs.Types.{Stands}
 use Rattle.ds_shape.specs.Accepted.{HasLayout}
+use Rattle.ds_shape.specs.Fault.{HasLines, HasDepth}
 use Rattle.ds_shape.specs.Laws.{ExtentsExist, OffsetsExist}
 
 -- NAMES
@@ -28,29 +30,29 @@ abbrev spelling : Name → List ℕ
 spelling (Number n) = []
 spelling (Text bytes) = bytes
 
-names_decide : (m n : Name) → Decides (is_name m n) (m ≡ n)
+pub names_decide : (m n : Name) → Decides (is_name m n) (m ≡ n)
 names_decide (Number a) (Number b) = let d = Decides-eqb a b in (λ e. ap Number (d.0 e), λ e. d.1 (ap number e))
 names_decide (Number a) (Text b) = (λ e. absurd (true≢false (sym e)), λ e. cc)
 names_decide (Text a) (Number b) = (λ e. absurd (true≢false (sym e)), λ e. cc)
 names_decide (Text a) (Text b) = let d = bytes_eq-Decides a b in (λ e. ap Text (d.0 e), λ e. d.1 (ap spelling e))
 
-among_left : (n : Name) (xs ys : List Name) → Among n xs → Among n (xs ++ ys)
+pub among_left : (n : Name) (xs ys : List Name) → Among n xs → Among n (xs ++ ys)
 among_left n [] ys a = absurd a
 among_left n (x ∷ xs) ys (inl e) = inl e
 among_left n (x ∷ xs) ys (inr a) = inr (among_left n xs ys a)
 
-among_right : (n : Name) (xs ys : List Name) → Among n ys → Among n (xs ++ ys)
+pub among_right : (n : Name) (xs ys : List Name) → Among n ys → Among n (xs ++ ys)
 among_right n [] ys a = a
 among_right n (x ∷ xs) ys a = inr (among_right n xs ys a)
 
-among_flat : {A : Type 0} (f : A → List Name) (xs : List A) (n : Name) (x : A) → Stands x xs → Among n (f x) → Among n (flat_map f xs)
+pub among_flat : {A : Type 0} (f : A → List Name) (xs : List A) (n : Name) (x : A) → Stands x xs → Among n (f x) → Among n (flat_map f xs)
 among_flat f [] n x ([], after, is) a = absurd cc
 among_flat f [] n x (z ∷ before, after, is) a = absurd cc
 among_flat f (y ∷ ys) n x ([], after, is) a = let e : y ≡ x = cc in among_left n (f y) (flat_map f ys) (subst (λ z. Among n (f z)) (sym e) a)
 among_flat f (y ∷ ys) n x (z ∷ before, after, is) a =
     let e : ys ≡ before ++ x ∷ after = cc in among_right n (f y) (flat_map f ys) (among_flat f ys n x (before, after, e) a)
 
-all_among : (P : Name → Type 0) (xs : List Name) (n : Name) → All P xs → Among n xs → P n
+pub all_among : (P : Name → Type 0) (xs : List Name) (n : Name) → All P xs → Among n xs → P n
 all_among P [] n all a = absurd a
 all_among P (x ∷ xs) n all (inl e) = subst P e (All-head P x xs all)
 all_among P (x ∷ xs) n all (inr a) = all_among P xs n (All-tail P x xs all) a
@@ -60,13 +62,13 @@ all_among P (x ∷ xs) n all (inr a) = all_among P xs n (All-tail P x xs all) a
 abbrev Without : Name → List Name → Type 0
 Without n xs = (ys : List Name) × (length xs ≡ suc (length ys)) × ((x : Name) → (n ≡ x → ⊥) → Among x xs → Among x ys)
 
-without : (n : Name) (xs : List Name) → Among n xs → Without n xs
+pub without : (n : Name) (xs : List Name) → Among n xs → Without n xs
 without n [] a = absurd a
 without n (y ∷ ys) (inl e) = (ys, refl, λ x other a. elim a [ inl f ↦ absurd (other (sym e ∙ f)) | inr b ↦ b ])
 without n (y ∷ ys) (inr b) = let w = without n ys b in (y ∷ w.0, ap suc w.1, λ x other a. elim a [ inl f ↦ inl f | inr c ↦ inr (w.2 x other c) ])
 
 -- distinct names among others are no more than those
-no_more : (ns xs : List Name) → AreDistinct ns → ((x : Name) → Among x ns → Among x xs) → length ns ≤ length xs
+pub no_more : (ns xs : List Name) → AreDistinct ns → ((x : Name) → Among x ns → Among x xs) → length ns ≤ length xs
 no_more [] xs d in_xs = omega arith
 no_more (n ∷ ns) xs d in_xs =
     let w = without n xs (in_xs n (inl refl)) in
@@ -76,16 +78,16 @@ no_more (n ∷ ns) xs d in_xs =
 
 -- WHAT HAS NO EXTENT
 
-found_or_not : {A : Type 0} (o : Option A) → (o ≡ None) ⊎ ((x : A) × (o ≡ Some x))
+pub found_or_not : {A : Type 0} (o : Option A) → (o ≡ None) ⊎ ((x : A) × (o ≡ Some x))
 found_or_not None = inl refl
 found_or_not (Some x) = inr (x, refl)
 
-map_none : {A B : Type 0} (f : A → B) (o : Option A) → option_map f o ≡ None → o ≡ None
+pub map_none : {A B : Type 0} (f : A → B) (o : Option A) → option_map f o ≡ None → o ≡ None
 map_none f None is = refl
 map_none f (Some x) is = absurd cc
 
 -- a type without an extent has a struct type without one
-missing_type : (g : Name → Option Extent) (t : Ty) → extent_by g t ≡ None → (n : Name) × Among n (struct_in t) × (g n ≡ None)
+pub missing_type : (g : Name → Option Extent) (t : Ty) → extent_by g t ≡ None → (n : Name) × Among n (struct_in t) × (g n ≡ None)
 missing_type g Void is = absurd cc
 missing_type g (One s) is = absurd cc
 missing_type g (Array' count _ (more_of-Ty of end_of-Ty)) is = missing_type g of (map_none (times count) (extent_by g of) is)
@@ -114,7 +116,7 @@ missing_struct structs d name fields of is =
 
 -- LINES
 
-abbrev HasLine : List StructDef → Name → Type 0
+abbrev pub HasLine : List StructDef → Name → Type 0
 HasLine structs name = (fields : List Ty) × (fields_of structs name ≡ Some fields) × Among name (struct_names structs)
 
 by_line : (line : StructDef) (lines : List StructDef) (name : Name) (b : Bool) → is_name line.name name ≡ b →
@@ -126,7 +128,7 @@ by_line line lines name false e (inl no_line) = inl (λ a. elim a [
 ])
 by_line line lines name false e (inr found) = inr (found.0, rw e found.1, inr found.2)
 
-line_or_none : (structs : List StructDef) (name : Name) → (Among name (struct_names structs) → ⊥) ⊎ HasLine structs name
+pub line_or_none : (structs : List StructDef) (name : Name) → (Among name (struct_names structs) → ⊥) ⊎ HasLine structs name
 line_or_none [] name = inl (λ a. a)
 line_or_none (line ∷ lines) name = by_line line lines name (is_name line.name name) refl (line_or_none lines name)
 
@@ -157,42 +159,43 @@ abbrev Chain : List StructDef → Name → List Name → Type 0
 Chain structs name [] = Unit {0}
 Chain structs name (n ∷ ns) = Holds structs name n × Chain structs n ns
 
-reaches : (structs : List StructDef) (name : Name) (ns : List Name) (x : Name) → Chain structs name ns → Among x ns → (by : List Name) × HoldsThrough structs name by x
+pub reaches : (structs : List StructDef) (name : Name) (ns : List Name) (x : Name) → Chain structs name ns → Among x ns → (by : List Name) × HoldsThrough structs name by x
 reaches structs name [] x c a = absurd a
 reaches structs name (n ∷ ns) x c (inl e) = ([], subst (λ (y : Name). Holds structs name y) e c.0)
 reaches structs name (n ∷ ns) x c (inr a) = let r = reaches structs n ns x c.1 a in (n ∷ r.0, (c.0, r.1))
 
-module _ (m : Module) (layout : HasLayout m) where
-  abbrev Known : Name → Type 0
+module _ (m : Module) (lines : HasLines m) where
+  abbrev pub Known : Name → Type 0
   Known name = Among name (struct_names m.structs)
 
-  known_written : (name : Name) → Among name (written_names m) → Known name
+  pub known_written : (name : Name) → Among name (written_names m) → Known name
   known_written name a = elim (line_or_none m.structs name) [
-    | inl unknown ↦ absurd (all_among (λ n. IsUnknown m n → ⊥) (written_names m) name layout.no_unknown a unknown)
+    | inl unknown ↦ absurd (all_among (λ n. IsUnknown m n → ⊥) (written_names m) name lines.no_unknown a unknown)
     | inr found ↦ found.2
   ]
 
-  held_in_module : (name held : Name) → Holds m.structs name held → Among held (written_names m)
+  pub held_in_module : (name held : Name) → Holds m.structs name held → Among held (written_names m)
   held_in_module name held holds =
       let globals = map global_line m.globals in
       let functions = map function_line m.functions in
       subst (λ (ls : List Line). Among held (names_in ls)) (sym (append_assoc (map struct_line m.structs) globals functions)) (held_is_written m.structs (globals ++ functions) name held holds)
 
+module _ (m : Module) (layout : HasDepth m) where
   abbrev ChainFrom : ℕ → Name → Type 0
-  ChainFrom d name = (ns : List Name) × Chain m.structs name ns × ((x : Name) → Among x ns → Known x) × (length ns ≡ d)
+  ChainFrom d name = (ns : List Name) × Chain m.structs name ns × ((x : Name) → Among x ns → Known m layout.lines x) × (length ns ≡ d)
 
-  chain : (d : ℕ) (name : Name) → Known name → struct_extent m.structs d name ≡ None → ChainFrom d name
+  chain : (d : ℕ) (name : Name) → Known m layout.lines name → struct_extent m.structs d name ≡ None → ChainFrom d name
   chain zero name k is = ([], tt, λ x a. absurd a, refl)
   chain (suc d) name k is = elim (line_or_none m.structs name) [
     | inl unknown ↦ absurd (unknown k)
     | inr found ↦
         let x = missing_struct m.structs d name found.0 found.1 is in
-        let known = known_written x.0 (held_in_module name x.0 x.1) in
+        let known = known_written m layout.lines x.0 (held_in_module m layout.lines name x.0 x.1) in
         let c = chain d x.0 known x.2 in
-        (x.0 ∷ c.0, (x.1, c.1), λ y a. elim a [ inl e ↦ subst Known e known | inr b ↦ c.2 y b ], ap suc c.3)
+        (x.0 ∷ c.0, (x.1, c.1), λ y a. elim a [ inl e ↦ subst (Known m layout.lines) e known | inr b ↦ c.2 y b ], ap suc c.3)
   ]
 
-  distinct_chain : (name : Name) (ns : List Name) → Chain m.structs name ns → Known name → ((x : Name) → Among x ns → Known x) → AreDistinct (name ∷ ns)
+  distinct_chain : (name : Name) (ns : List Name) → Chain m.structs name ns → Known m layout.lines name → ((x : Name) → Among x ns → Known m layout.lines x) → AreDistinct (name ∷ ns)
   distinct_chain name [] c k ks = (λ a. a, tt)
   distinct_chain name (n ∷ ns) c k ks = (
     λ a. all_among (λ x. IsRecursive m.structs x → ⊥) (struct_names m.structs) name layout.no_recursive_type k (reaches m.structs name (n ∷ ns) name c a),
@@ -200,26 +203,37 @@ module _ (m : Module) (layout : HasLayout m) where
   )
 
   -- as many structs deep as there are lines each has its extent
-  none_lacks : (name : Name) → Known name → struct_extent m.structs (length m.structs) name ≡ None → ⊥
+  pub none_lacks : (name : Name) → Known m layout.lines name → struct_extent m.structs (length m.structs) name ≡ None → ⊥
   none_lacks name k is =
       let c = chain (length m.structs) name k is in
       let h : length (name ∷ c.0) ≤ length (struct_names m.structs) =
-      no_more (name ∷ c.0) (struct_names m.structs) (distinct_chain name c.0 c.1 k c.2) (λ x a. elim a [ inl e ↦ subst Known e k | inr b ↦ c.2 x b ]) in
+      no_more (name ∷ c.0) (struct_names m.structs) (distinct_chain name c.0 c.1 k c.2) (λ x a. elim a [ inl e ↦ subst (Known m layout.lines) e k | inr b ↦ c.2 x b ]) in
       let l : length (struct_names m.structs) ≡ length m.structs = length-map m.structs (λ (s : StructDef). s.name) in
       let n : length c.0 ≡ length m.structs = c.3 in
       omega (arith, h, l, n)
+
+  -- a type whose struct types are known has an extent
+  pub extent_known : (t : Ty) → ((n : Name) → Among n (struct_in t) → Known m layout.lines n) → (e : Extent) × HasExtent m.structs t e
+  extent_known t known = elim (found_or_not (extent_by (struct_extent m.structs (length m.structs)) t)) [
+    | inl lacks ↦ let x = missing_type (struct_extent m.structs (length m.structs)) t lacks in absurd (none_lacks x.0 (known x.0 x.1) x.2)
+    | inr found ↦ (found.0, (length m.structs, found.1))
+  ]
 
   extent_of : (l : Line) (t : Ty) → Stands l (lines_of m) → Stands t l.types → (e : Extent) × HasExtent m.structs t e
   extent_of l t stands in_line = elim (found_or_not (extent_by (struct_extent m.structs (length m.structs)) t)) [
     | inl lacks ↦
         let x = missing_type (struct_extent m.structs (length m.structs)) t lacks in
         let in_types = among_flat struct_in l.types x.0 t in_line x.1 in
-        absurd (none_lacks x.0 (known_written x.0 (among_flat (λ (y : Line). flat_map struct_in y.types) (lines_of m) x.0 l stands in_types)) x.2)
+        absurd (none_lacks x.0 (known_written m layout.lines x.0 (among_flat (λ (y : Line). flat_map struct_in y.types) (lines_of m) x.0 l stands in_types)) x.2)
     | inr found ↦ (found.0, (length m.structs, found.1))
   ]
 
+-- what has a layout has depth
+pub depth_of : (m : Module) → HasLayout m → HasDepth m
+depth_of m layout = record { lines = record { no_twice_type = layout.no_twice_type; no_unknown = layout.no_unknown }; no_recursive_type = layout.no_recursive_type }
+
 pub existing_extents : ExtentsExist
-existing_extents m l t layout stands in_line = extent_of m layout l t stands in_line
+existing_extents m l t layout stands in_line = extent_of m (depth_of m layout) l t stands in_line
 
 -- OFFSETS
 
@@ -242,13 +256,13 @@ fields_by_line line lines s true e only rest =
 fields_by_line line lines s false e only (inl rest) = rw e rest
 fields_by_line line lines s false e only (inr same) = absurd (true≢false (sym ((names_decide line.name s.name).1 (ap (λ (x : StructDef). x.name) same)) ∙ e))
 
-name_among : (structs : List StructDef) (s : StructDef) → Stands s structs → Among s.name (struct_names structs)
+pub name_among : (structs : List StructDef) (s : StructDef) → Stands s structs → Among s.name (struct_names structs)
 name_among [] s ([], after, is) = absurd cc
 name_among [] s (z ∷ before, after, is) = absurd cc
 name_among (x ∷ xs) s ([], after, is) = let e : x ≡ s = cc in inl (ap (λ (y : StructDef). y.name) e)
 name_among (x ∷ xs) s (z ∷ before, after, is) = let e : xs ≡ before ++ s ∷ after = cc in inr (name_among xs s (before, after, e))
 
-fields_of_line : (structs : List StructDef) (s : StructDef) → AreDistinct (struct_names structs) → Stands s structs → fields_of structs s.name ≡ Some s.fields
+pub fields_of_line : (structs : List StructDef) (s : StructDef) → AreDistinct (struct_names structs) → Stands s structs → fields_of structs s.name ≡ Some s.fields
 fields_of_line [] s d ([], after, is) = absurd cc
 fields_of_line [] s d (z ∷ before, after, is) = absurd cc
 fields_of_line (x ∷ xs) s d ([], after, is) = let e : x ≡ s = cc in fields_by_line x xs s (is_name x.name s.name) refl (λ n. e) (inr e)
@@ -258,9 +272,9 @@ fields_of_line (x ∷ xs) s d (z ∷ before, after, is) =
     fields_by_line x xs s (is_name x.name s.name) refl
     (λ n. absurd (d.0 (subst (λ (y : Name). Among y (struct_names xs)) (sym n) (name_among xs s behind)))) (inl (fields_of_line xs s d.1 behind))
 
-module _ (m : Module) (layout : HasLayout m) (s : StructDef) (stands : Stands s m.structs) where
+module _ (m : Module) (layout : HasDepth m) (s : StructDef) (stands : Stands s m.structs) where
   its_fields : fields_of m.structs s.name ≡ Some s.fields
-  its_fields = fields_of_line m.structs s layout.no_twice_type stands
+  its_fields = fields_of_line m.structs s layout.lines.no_twice_type stands
 
   abbrev extent_in : Ty → Option Extent
   extent_in = extent_by (struct_extent m.structs (length m.structs))
@@ -270,7 +284,7 @@ module _ (m : Module) (layout : HasLayout m) (s : StructDef) (stands : Stands s 
     | inl lacks ↦
         let x = missing_type (struct_extent m.structs (length m.structs)) t lacks in
         let held : Holds m.structs s.name x.0 = (s.fields, its_fields, among_flat struct_in s.fields x.0 t in_fields x.1) in
-        absurd (none_lacks m layout x.0 (known_written m layout x.0 (held_in_module m layout s.name x.0 held)) x.2)
+        absurd (none_lacks m layout x.0 (known_written m layout.lines x.0 (held_in_module m layout.lines s.name x.0 held)) x.2)
     | inr found ↦ found
   ]
 
@@ -279,4 +293,4 @@ module _ (m : Module) (layout : HasLayout m) (s : StructDef) (stands : Stands s 
       let x = offset_among extent_in 0 n s.fields field_extent inside in (x.0, (length m.structs, rw its_fields x.1))
 
 pub existing_offsets : OffsetsExist
-existing_offsets m s n layout stands inside = offset_of m layout s stands n inside
+existing_offsets m s n layout stands inside = offset_of m (depth_of m layout) s stands n inside

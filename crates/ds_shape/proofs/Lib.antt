@@ -6,3 +6,14 @@ mod TriedFaults
 mod TriedFlow
 mod TriedTypes
 pub mod Exist
+pub mod Caps
+pub mod Arrays
+pub mod Lists
+pub mod Places
+pub mod Large
+pub mod Orders
+pub mod Holding
+pub mod Filling
+pub mod Layouts
+pub mod Fitting
+pub mod Laws

@@ -7,7 +7,7 @@ use Rattle.ds_ast.specs.declared.name.Name.{Name}
 use Rattle.ds_ast.specs.declared.name.Name.TheVariants.{Number}
 use Rattle.ds_ast.specs.declared.module.Function.{Function}
 use Rattle.ds_ast.specs.declared.module.Block.{Block}
-use Rattle.ds_shape.specs.Written.{Among, AreDistinct}
+use Rattle.ds_names.specs.Names.{Among, AreDistinct}
 use Rattle.ds_shape.specs.Types.{Stands}
 use Rattle.ds_shape.specs.Flow.{IsEntry, IsPath, Assigns, IsAssignedAt}
 

@@ -12,7 +12,8 @@ use Rattle.ds_ast.specs.declared.ty.Ty.TheBlock.{hidden-the_row-Ty-0}
 use denote.Hole.Carrier.{hidden}
 use Rattle.ds_ast.specs.declared.init.Init as init
 use Rattle.ds_shape.specs.Sizes.{Extent, HasExtent, HasOffset, extent_by, fields_extent, rounded, struct_extent}
-use Rattle.ds_shape.specs.Written.{Among, IsUnknown, Holds, HoldsThrough, IsRecursive, IsTooLarge, WritesTooLarge, AnyTooLarge, IsFirstTwice, struct_in, struct_names, written_names}
+use Rattle.ds_names.specs.Names.{Among, IsFirstTwice}
+use Rattle.ds_shape.specs.Written.{IsUnknown, Holds, HoldsThrough, IsRecursive, IsTooLarge, WritesTooLarge, AnyTooLarge, struct_in, struct_names, written_names}
 use Rattle.ds_shape.proofs.Deeper.{unique_extents, unique_offsets}
 use Rattle.std.specs.Prelude.{flat_map, max}
 use Rattle.std.proofs.lemmas.Option.{option_and_then_some}

@@ -23,8 +23,10 @@ use Rattle.ds_ast.specs.declared.module.Param.{Param}
 use Rattle.ds_ast.specs.declared.module.Block.{Block}
 use Rattle.ds_ast.specs.declared.ty.Ty.TheBlock.{hidden-the_row-Ty-0}
 use denote.Hole.Carrier.{hidden}
-use Rattle.ds_shape.specs.Written.{AreDistinct, Line, IsUnknown, IsRecursive, AnyTooLarge}
-use Rattle.ds_shape.specs.Types.{Plain, instructions_of, IsInitial}
+use Rattle.ds_names.specs.Names.{AreDistinct}
+use Rattle.ds_shape.specs.Written.{Line, IsUnknown, IsRecursive, AnyTooLarge}
+use Rattle.ds_shape.specs.declared.local.LocalType.TheVariants.{Plain}
+use Rattle.ds_shape.specs.Types.{instructions_of, IsInitial}
 use Rattle.ds_shape.specs.Flow.{IsEntry, IsPath, Assigns}
 use Rattle.ds_shape.specs.Accepted.{HasLayout, global_names, HasWords, IsKnownExternal, IsReserved, HasMain, local_names, IsTarget, IsDefined, IsAssignedUse, GivesRegister, parameter_types, Accepted, IsGoodFunction}
 use Rattle.ds_shape.proofs.Standing.{each}

@@ -24,8 +24,10 @@ use Rattle.ds_ast.specs.declared.module.Param.{Param}
 use Rattle.ds_ast.specs.declared.module.Block.{Block}
 use Rattle.ds_ast.specs.Bounds as bound
 use Rattle.ds_shape.specs.Sizes.{Extent}
-use Rattle.ds_shape.specs.Written.{AreDistinct, Line, lines_of, IsUnknown, IsRecursive, AnyTooLarge}
-use Rattle.ds_shape.specs.Types.{Plain, Stands, Defines, HasType, IsInitial}
+use Rattle.ds_names.specs.Names.{AreDistinct}
+use Rattle.ds_shape.specs.Written.{Line, lines_of, IsUnknown, IsRecursive, AnyTooLarge}
+use Rattle.ds_shape.specs.declared.local.LocalType.TheVariants.{Plain}
+use Rattle.ds_shape.specs.Types.{Stands, Defines, HasType, IsInitial}
 use Rattle.ds_shape.specs.Flow.{arms_of, targets_of, IsEntry, IsEdge, IsAssignedAt}
 use Rattle.ds_shape.specs.Accepted.{HasLayout, global_names, HasWords, IsKnownExternal, IsReserved, HasMain, IsTarget, IsDefined, IsPhi, IsGoodPhi, IsAssignedUse, IsAssignedArm, IsGoodInstr, IsGoodFunction, Accepted}
 use Rattle.ds_shape.proofs.Deeper.{unique_extents}

@@ -27,7 +27,9 @@ use Rattle.ds_ast.specs.declared.module.Function.{Function}
 use Rattle.ds_ast.specs.declared.module.Param.{Param}
 use Rattle.ds_ast.specs.declared.ty.Ty.TheBlock.{hidden-the_row-Ty-0}
 use denote.Hole.Carrier.{hidden}
-use Rattle.ds_shape.specs.Types.{LocalType, Plain, Pair, Defines, result_type, HasType, IsTypedOp, Walks, IsWide, ArePassed, CreateArguments, IsThreadFunction, IsInitial}
+use Rattle.ds_shape.specs.declared.local.LocalType.{LocalType}
+use Rattle.ds_shape.specs.declared.local.LocalType.TheVariants.{Plain, Pair}
+use Rattle.ds_shape.specs.Types.{Defines, result_type, HasType, IsTypedOp, Walks, IsWide, ArePassed, CreateArguments, IsThreadFunction, IsInitial}
 use Rattle.ds_shape.proofs.Standing.{all_of, each}
 use Rattle.ds_shape.proofs.TriedModule.{named, unnamed, block, operand, local, g}
 
@@ -266,12 +268,12 @@ element = (
 no_index : Fits (Gep (ty.Struct (Number 0)) (local 2) [])
 no_index = (tt, place, all_of IsIndex [] tt, tt)
 
-by_variable : Walks m f (ty.Array 4 (ty.One I16)) (operand I32 (local 1) ∷ [])
+by_variable : Walks m (ty.Array 4 (ty.One I16)) (operand I32 (local 1) ∷ [])
 unfolding hidden-the_row-Ty-0 hidden
 by_variable = (ty.One I16, refl, tt)
 
 -- a third field, a field by an i64, and one by a variable
-third_field : Walks m f (ty.Struct (Number 0)) (operand I32 (Int 2) ∷ []) → ⊥
+third_field : Walks m (ty.Struct (Number 0)) (operand I32 (Int 2) ∷ []) → ⊥
 unfolding hidden-the_row-Ty-0 hidden
 third_field (next, (fields, n, same, by, is, (before, after, split, many)), rest) =
     let e : pair.fields ≡ fields = cc in
@@ -281,13 +283,13 @@ third_field (next, (fields, n, same, by, is, (before, after, split, many)), rest
     let s : length (before ++ next ∷ after) ≡ length before + suc (length after) = length-append before (next ∷ after) in
     omega (arith, l, k, j, s, many)
 
-field_by_long : Walks m f (ty.Struct (Number 0)) (operand I64 (Int 1) ∷ []) → ⊥
+field_by_long : Walks m (ty.Struct (Number 0)) (operand I64 (Int 1) ∷ []) → ⊥
 field_by_long (next, (fields, n, same, by, is, at), rest) = cc
 
-field_by_variable : Walks m f (ty.Struct (Number 0)) (operand I32 (local 1) ∷ []) → ⊥
+field_by_variable : Walks m (ty.Struct (Number 0)) (operand I32 (local 1) ∷ []) → ⊥
 field_by_variable (next, (fields, n, same, by, is, at), rest) = cc
 
-into_a_word : Walks m f (ty.One I64) (operand I64 (Int 0) ∷ []) → ⊥
+into_a_word : Walks m (ty.One I64) (operand I64 (Int 0) ∷ []) → ⊥
 into_a_word (next, is, rest) = is
 
 index_by_truth : Fits (Gep (ty.One I8) (local 2) (operand I1 (Int 1) ∷ [])) → ⊥
@@ -339,7 +341,7 @@ start_global is =
 start_void : ByForm (passed Null (Global f.name)) → ⊥
 start_void is =
     let s = (start_by_form (passed Null (Global f.name)) is).5 in
-    each (λ (x : Function). x.name ≡ Text (codes "f") → IsThreadFunction m f x → ⊥) m.functions (
+    each (λ (x : Function). x.name ≡ Text (codes "f") → IsThreadFunction x → ⊥) m.functions (
       λ e t. let h : ty.Void ≡ ty.One Ptr = t.0 in cc,
       (
         λ e t. let h : 119 ≡ 102 = ap first_byte e in omega (arith, h),

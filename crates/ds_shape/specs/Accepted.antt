@@ -19,8 +19,10 @@ use Rattle.ds_ast.specs.declared.module.Param.{Param}
 use Rattle.ds_ast.specs.declared.module.Block.{Block}
 use Rattle.ds_ast.specs.Bounds.{Bounds}
 use Rattle.ds_shape.specs.Sizes.{Extent, HasExtent, rounded}
-use Rattle.ds_shape.specs.Written.{AreDistinct, Line, lines_of, written_names, struct_names, IsUnknown, IsRecursive, AnyTooLarge}
-use Rattle.ds_shape.specs.Types.{LocalType, Stands, IsCalled, IsGlobal, IsFunction, Defines, instructions_of, IsTypedOp, IsInitial}
+use Rattle.ds_names.specs.Names.{AreDistinct}
+use Rattle.ds_shape.specs.Written.{Line, lines_of, written_names, struct_names, IsUnknown, IsRecursive, AnyTooLarge}
+use Rattle.ds_shape.specs.declared.local.LocalType.{LocalType}
+use Rattle.ds_shape.specs.Types.{Stands, IsCalled, IsGlobal, IsFunction, Defines, instructions_of, IsTypedOp, IsInitial}
 use Rattle.ds_shape.specs.Flow.{uses_of, arms_of, targets_of, IsEntry, IsEdge, IsAssignedAt}
 
 -- LAYOUT

@@ -1,13 +1,18 @@
 -- The statements of the laws.
-use Rattle.std.specs.Prelude.{◌≡◌, ◌<◌, ℕ, List, length}
+use Rattle.std.specs.Prelude.{◌≡◌, ◌<◌, ℕ, List, length, Some}
 use Rattle.ds_ast.specs.declared.name.Name.{Name}
 use Rattle.ds_ast.specs.declared.ty.Ty.{Ty}
+use Rattle.ds_ast.specs.declared.ty.Ty as ty
 use Rattle.ds_ast.specs.declared.module.Module.{Module}
 use Rattle.ds_ast.specs.declared.module.StructDef.{StructDef}
 use Rattle.ds_shape.specs.Sizes.{Extent, HasExtent, HasOffset}
 use Rattle.ds_shape.specs.Written.{Line, lines_of}
 use Rattle.ds_shape.specs.Types.{Stands}
+use Rattle.ds_ast.specs.Bounds.{fields_of}
 use Rattle.ds_shape.specs.Accepted.{HasLayout}
+use Rattle.ds_shape.specs.Fault.{HasShapeFault}
+use Rattle.ds_shape.specs.Fits.{Fits}
+use Rattle.ds_shape.specs.declared.fault.ShapeFault.{ShapeFault}
 
 -- a type has at most one extent
 abbrev pub ExtentsAreUnique : Type 0
@@ -24,3 +29,23 @@ ExtentsExist = (m : Module) (l : Line) (t : Ty) → HasLayout m → Stands l (li
 -- and each field of a struct has an offset
 abbrev pub OffsetsExist : Type 0
 OffsetsExist = (m : Module) (s : StructDef) (n : ℕ) → HasLayout m → Stands s m.structs → n < length s.fields → (offset : ℕ) × HasOffset m.structs s.name n offset
+
+-- a module that has a layout has no fault
+abbrev pub LayoutsAreNotRefused : Type 0
+LayoutsAreNotRefused = (m : Module) (fault : ShapeFault) → HasLayout m → HasShapeFault m fault → ⊥
+
+-- and another has one first fault
+abbrev pub OneFirstFault : Type 0
+OneFirstFault = (m : Module) (f g : ShapeFault) → HasShapeFault m f → HasShapeFault m g → f ≡ g
+
+-- in a module that has a layout each type that is written fits
+abbrev pub WrittenTypesFit : Type 0
+WrittenTypesFit = (m : Module) (l : Line) (t : Ty) → HasLayout m → Stands l (lines_of m) → Stands t l.types → Fits m.structs t
+
+-- and so does the type of each field of a struct
+abbrev pub FieldsFit : Type 0
+FieldsFit = (m : Module) (name : Name) (fields : List Ty) (t : Ty) → HasLayout m → fields_of m.structs name ≡ Some fields → Stands t fields → Fits m.structs t
+
+-- with an array its elements fit
+abbrev pub ElementsFit : Type 0
+ElementsFit = (structs : List StructDef) (count : ℕ) (of : Ty) → Fits structs (ty.Array count of) → Fits structs of

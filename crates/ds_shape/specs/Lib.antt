@@ -4,3 +4,9 @@ pub mod Types
 pub mod Flow
 pub mod Accepted
 pub mod Laws
+pub mod Fault
+pub mod Placed
+pub mod Capped
+pub mod Index
+pub mod Fits
+pub mod Kept

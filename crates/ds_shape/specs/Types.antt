@@ -24,7 +24,9 @@ use Rattle.ds_ast.specs.declared.module.Function.{Function}
 use Rattle.ds_ast.specs.declared.module.Param.{Param}
 use Rattle.ds_ast.specs.declared.module.Block.{Block}
 use Rattle.ds_ast.specs.Bounds.{width, fields_of}
-use Rattle.ds_shape.specs.Written.{Among}
+use Rattle.ds_names.specs.Names.{Among}
+use Rattle.ds_shape.specs.declared.local.LocalType.{LocalType}
+use Rattle.ds_shape.specs.declared.local.LocalType.TheVariants.{Plain, Pair}
 
 -- LISTS
 
@@ -59,11 +61,6 @@ abbrev pub IsFunction : Module → Name → Type 0
 IsFunction m name = Among name (map (λ (f : Function). f.name) m.functions)
 
 -- TYPES OF LOCAL VALUES
-
--- the type of a local value: that of a register, or the pair of a cmpxchg on one
-pub data LocalType : Type 0 where
-  Plain : Scalar → LocalType
-  Pair : Scalar → LocalType
 
 -- the types of the values of a type: none of void, arrays and structs
 abbrev pub register_type : Ty → Option LocalType
@@ -132,44 +129,40 @@ IsWide Ptr = ⊥
 abbrev pub IsStored : Scalar → Type 0
 IsStored s = s ≡ I1 → ⊥
 
-module _ (m : Module) (f : Function) where
-  -- the value has the type: a number any integer, null that of addresses, undef any, a local that of its definition, a global's name that of addresses; no
-  -- function's name is a value
-  abbrev pub HasType : Scalar → Value → Type 0
-  HasType s (Int n) = IsInteger s
-  HasType s Null = s ≡ Ptr
-  HasType s Undef = Unit {0}
-  HasType s (Local name) = Defines f name (Some (Plain s))
-  HasType s (Global name) = (s ≡ Ptr) × IsGlobal m name
+-- INSTRUCTIONS
 
-  abbrev pub IsTypedOperand : Operand → Type 0
-  IsTypedOperand o = HasType o.ty o.value
+-- the operation is one of bits, which truth values have
+abbrev pub IsBitwise : BinOp → Type 0
+IsBitwise op = (op ≡ bin.And) ⊎ ((op ≡ bin.Or) ⊎ (op ≡ bin.Xor))
 
-  -- INSTRUCTIONS
+-- the conversion goes from the one type to the other
+abbrev pub Converts : CastOp → Scalar → Scalar → Type 0
+Converts cast.Zext from to = IsInteger from × IsInteger to × (width from < width to)
+Converts cast.Sext from to = IsInteger from × IsInteger to × (width from < width to)
+Converts cast.Trunc from to = IsInteger from × IsInteger to × (width to < width from)
+Converts cast.PtrToInt from to = (from ≡ Ptr) × IsWide to
+Converts cast.IntToPtr from to = IsWide from × (to ≡ Ptr)
 
-  -- the operation is one of bits, which truth values have
-  abbrev pub IsBitwise : BinOp → Type 0
-  IsBitwise op = (op ≡ bin.And) ⊎ ((op ≡ bin.Or) ⊎ (op ≡ bin.Xor))
+-- the type has values
+abbrev pub IsNoVoid : Ty → Type 0
+IsNoVoid Void = ⊥
+IsNoVoid (One s) = Unit {0}
+IsNoVoid (Array' count _ of) = Unit {0}
+IsNoVoid (Struct name) = Unit {0}
 
-  -- the conversion goes from the one type to the other
-  abbrev pub Converts : CastOp → Scalar → Scalar → Type 0
-  Converts cast.Zext from to = IsInteger from × IsInteger to × (width from < width to)
-  Converts cast.Sext from to = IsInteger from × IsInteger to × (width from < width to)
-  Converts cast.Trunc from to = IsInteger from × IsInteger to × (width to < width from)
-  Converts cast.PtrToInt from to = (from ≡ Ptr) × IsWide to
-  Converts cast.IntToPtr from to = IsWide from × (to ≡ Ptr)
+-- the field behind so many
+abbrev pub FieldAt : List Ty → ℕ → Ty → Type 0
+FieldAt fields n next = (before : List Ty) × (after : List Ty) × (fields ≡ before ++ next ∷ after) × (length before ≡ n)
 
-  -- the type has values
-  abbrev pub IsNoVoid : Ty → Type 0
-  IsNoVoid Void = ⊥
-  IsNoVoid (One s) = Unit {0}
-  IsNoVoid (Array' count _ of) = Unit {0}
-  IsNoVoid (Struct name) = Unit {0}
+-- the function is what pthread_create starts: ptr (ptr), and defined
+abbrev pub IsThreadFunction : Function → Type 0
+IsThreadFunction g = (g.result ≡ One Ptr) × (map (λ (p : Param). p.ty) g.params ≡ Ptr ∷ []) × (g.blocks ≡ [] → ⊥)
 
-  -- the field behind so many
-  abbrev pub FieldAt : List Ty → ℕ → Ty → Type 0
-  FieldAt fields n next = (before : List Ty) × (after : List Ty) × (fields ≡ before ++ next ∷ after) × (length before ≡ n)
+-- the function is this external: declared
+abbrev pub IsExternal : List ℕ → Function → Type 0
+IsExternal bytes g = IsCalled bytes g.name × (g.blocks ≡ [])
 
+module _ (m : Module) where
   -- a type behind one index more: that of an array's elements by any index, that of a struct's field by its number as a literal of i32
   abbrev pub Steps : Ty → Operand → Ty → Type 0
   Steps Void index next = ⊥
@@ -188,14 +181,6 @@ module _ (m : Module) (f : Function) where
   Addresses t [] = Unit {0}
   Addresses t (i ∷ is) = Walks t is
 
-  -- the argument of a call has the type of the parameter
-  abbrev pub IsArgument : Operand → Param → Type 0
-  IsArgument o p = (o.ty ≡ p.ty) × IsTypedOperand o
-
-  -- the function is what pthread_create starts: ptr (ptr), and defined
-  abbrev pub IsThreadFunction : Function → Type 0
-  IsThreadFunction g = (g.result ≡ One Ptr) × (map (λ (p : Param). p.ty) g.params ≡ Ptr ∷ []) × (g.blocks ≡ [] → ⊥)
-
   -- the value is the name of such a function
   abbrev pub IsThreadStart : Value → Type 0
   IsThreadStart (Int n) = ⊥
@@ -204,13 +189,26 @@ module _ (m : Module) (f : Function) where
   IsThreadStart (Local name) = ⊥
   IsThreadStart (Global name) = (g : Function) × Stands g m.functions × (g.name ≡ name) × IsThreadFunction g
 
-  -- the function is this external: declared
-  abbrev pub IsExternal : List ℕ → Function → Type 0
-  IsExternal bytes g = IsCalled bytes g.name × (g.blocks ≡ [])
+module _ (m : Module) (f : Function) where
+  -- the value has the type: a number any integer, null that of addresses, undef any, a local that of its definition, a global's name that of addresses; no
+  -- function's name is a value
+  abbrev pub HasType : Scalar → Value → Type 0
+  HasType s (Int n) = IsInteger s
+  HasType s Null = s ≡ Ptr
+  HasType s Undef = Unit {0}
+  HasType s (Local name) = Defines f name (Some (Plain s))
+  HasType s (Global name) = (s ≡ Ptr) × IsGlobal m name
+
+  abbrev pub IsTypedOperand : Operand → Type 0
+  IsTypedOperand o = HasType o.ty o.value
+
+  -- the argument of a call has the type of the parameter
+  abbrev pub IsArgument : Operand → Param → Type 0
+  IsArgument o p = (o.ty ≡ p.ty) × IsTypedOperand o
 
   abbrev pub CreateArguments : List Operand → Type 0
   CreateArguments (id ∷ attributes ∷ start ∷ argument ∷ []) =
-      (id.ty ≡ Ptr) × IsTypedOperand id × (attributes.ty ≡ Ptr) × (attributes.value ≡ Null) × (start.ty ≡ Ptr) × IsThreadStart start.value × (argument.ty ≡ Ptr) × IsTypedOperand argument
+      (id.ty ≡ Ptr) × IsTypedOperand id × (attributes.ty ≡ Ptr) × (attributes.value ≡ Null) × (start.ty ≡ Ptr) × IsThreadStart m start.value × (argument.ty ≡ Ptr) × IsTypedOperand argument
   CreateArguments other = ⊥
 
   abbrev pub JoinArguments : List Operand → Type 0
@@ -233,7 +231,7 @@ module _ (m : Module) (f : Function) where
   IsTypedOp (Alloca t count) = IsNoVoid t × IfSome count (λ o. IsInteger o.ty × IsTypedOperand o)
   IsTypedOp (Load s at) = IsStored s × HasType Ptr at
   IsTypedOp (Store s v at) = IsStored s × HasType s v × HasType Ptr at
-  IsTypedOp (Gep t base indices) = IsNoVoid t × HasType Ptr base × All (λ (o : Operand). IsWide o.ty × IsTypedOperand o) indices × Addresses t indices
+  IsTypedOp (Gep t base indices) = IsNoVoid t × HasType Ptr base × All (λ (o : Operand). IsWide o.ty × IsTypedOperand o) indices × Addresses m t indices
   IsTypedOp (Call t callee args) = (g : Function) × Stands g m.functions × (g.name ≡ callee) × (t ≡ g.result) × ArePassed g args
   IsTypedOp (Phi s arms) = All (λ (a : Arm). HasType s a.value) arms
   IsTypedOp (Rmw op at s v) = IsStored s × (s ≡ Ptr → op ≡ rmw.Xchg) × HasType Ptr at × HasType s v

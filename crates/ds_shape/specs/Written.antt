@@ -11,6 +11,7 @@ use Rattle.ds_ast.specs.declared.module.GlobalDef.{GlobalDef}
 use Rattle.ds_ast.specs.declared.module.Function.{Function}
 use Rattle.ds_ast.specs.declared.module.Block.{Block}
 use Rattle.ds_ast.specs.Bounds.{fields_of}
+use Rattle.ds_names.specs.Names.{Among}
 use Rattle.ds_shape.specs.Sizes.{Extent, HasExtent}
 
 -- TYPES
@@ -77,24 +78,6 @@ struct_names structs = map (λ s. s.name) structs
 
 -- FIRST ITEMS
 
--- the name stands among these
-abbrev pub Among : Name → List Name → Type 0
-Among name [] = ⊥
-Among name (n ∷ names) = (n ≡ name) ⊎ Among name names
-
--- each name stands there once
-abbrev pub AreDistinct : List Name → Type 0
-AreDistinct [] = Unit {0}
-AreDistinct (n ∷ names) = (Among n names → ⊥) × AreDistinct names
-
--- the name stands there a second time, and none does before it
-pub record IsFirstTwice (names : List Name) (name : Name) : Type 0 where
-  pub before : List Name
-  pub after : List Name
-  pub split : names ≡ before ++ name ∷ after
-  pub first_time : Among name before
-  pub none_before : AreDistinct before
-
 -- the item has the property, and none before it has
 pub record IsFirst {A : Type 0} (P : A → Type 0) (items : List A) (item : A) : Type 0 where
   pub before : List A
@@ -102,6 +85,14 @@ pub record IsFirst {A : Type 0} (P : A → Type 0) (items : List A) (item : A) :
   pub split : items ≡ before ++ item ∷ after
   pub has : P item
   pub none_before : All (λ x. P x → ⊥) before
+
+-- the item breaks the rule, and all before it keep it
+pub record IsFirstBreach {A : Type 0} (Keeps : A → Type 0) (items : List A) (item : A) : Type 0 where
+  pub before : List A
+  pub after : List A
+  pub split : items ≡ before ++ item ∷ after
+  pub breaks : Keeps item → ⊥
+  pub kept_before : All Keeps before
 
 -- FAULTS
 
