@@ -1,0 +1,3 @@
+pub mod Scope
+pub mod Fault
+pub mod Entries
