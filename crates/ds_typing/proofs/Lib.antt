@@ -1,0 +1,5 @@
+pub mod Begun
+pub mod Called
+pub mod Kept
+pub mod Pairs
+pub mod Walked
