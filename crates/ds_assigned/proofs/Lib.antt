@@ -1,0 +1,5 @@
+pub mod Breach
+pub mod Stands
+pub mod Numbers
+pub mod Assigned
+pub mod Told
