@@ -1,0 +1,7 @@
+use Rattle.std.proofs.Common.{◌≡◌, ◌+◌, length, take}
+use Rattle.std.specs.Prelude.{flat_map}
+use Rattle.ds_shape.specs.Types.{instructions_of}
+use Rattle.ds_check.proofs.counts.has_few_instructions.Given as goal
+
+abbrev pub invariant-loop-f : goal.invariant-loop-f
+invariant-loop-f l = l.rest + length (flat_map instructions_of (take l.f-index l.fn.module.functions)) ≡ l.fn.limit
