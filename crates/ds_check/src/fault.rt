@@ -19,8 +19,9 @@ pub enum CountKind {
 }
 
 /// Why a module is not accepted. `f` is the number of a function among all functions of the module, `i` that of an instruction in its function, both in the
-/// order of the text and from 0 on. Of the faults that a module has, the first is told, as the variants stand here; but those of one function come before those
-/// of the next, and `Undefined`, `WrongType` and `BadPhi` of one instruction before those of the next.
+/// order of the text and from 0 on. Of the faults that a module has, the first is told, as the variants stand here; but a wrong initialiser comes behind
+/// `BadExternal` and before the faults of functions, those of one function come before those of the next, and `Undefined`, `WrongType` and `BadPhi` of one
+/// instruction before those of the next.
 #[derive(Debug, Drop, Error)]
 pub enum TypeFault {
     /// A global or function of this name stands before.
