@@ -19,6 +19,7 @@ mod values;
 mod words;
 
 pub use module::print;
+pub use names::{push_global, push_local};
 
 #[cfg(test)]
 mod tests;
