@@ -1,8 +1,12 @@
 use crate::{Fault, fault_line, render};
+use ds_ast::{Bytes, List, Name};
+use ds_check::{CountKind, TypeFault};
 use ds_core::replay_small;
 use ds_grammar::ParseFault;
 use ds_lex::LexFault;
+use ds_shape::ShapeFault;
 use ds_small::{Small, SmallAddress, SmallOp, SmallValue};
+use std::alloc::{AllocError, Global};
 use std::test::Fail;
 
 #[test]
@@ -67,6 +71,140 @@ fn tells_each_fault(rt: HostRuntime) -> Result<(), Fail> {
     for (fault, want) in &cases {
         let line = fault_line(rt.alloc(), fault)?;
         assert_eq!(rt; line.as_slice(), want.as_bytes(), "{fault:?}");
+    }
+    Ok(())
+}
+
+/// A name by its text.
+fn text(alloc: Global, name: &str) -> Result<Name, AllocError> {
+    Ok(Name::Text(Bytes::from_vec(Vec::from_slice(alloc, name.as_bytes())?)))
+}
+
+#[test]
+fn tells_each_fault_of_layout(rt: HostRuntime) -> Result<(), Fail> {
+    let alloc = rt.alloc();
+    let twice = ShapeFault::TwiceType {
+        name: text(alloc, "struct.pair")?,
+    };
+    let unknown = ShapeFault::Unknown {
+        name: Name::Number(7),
+    };
+    let recursive = ShapeFault::RecursiveType {
+        name: text(alloc, "two words")?,
+    };
+    let large_struct = ShapeFault::TooLarge {
+        name: text(alloc, "big")?,
+        is_struct: true,
+    };
+    let large_global = ShapeFault::TooLarge {
+        name: text(alloc, "big")?,
+        is_struct: false,
+    };
+    let cases = [
+        (twice, "error: twice %struct.pair\n"),
+        (unknown, "error: unknown type %7\n"),
+        (recursive, "error: recursive type %\"two words\"\n"),
+        (large_struct, "error: too large %big\n"),
+        (large_global, "error: too large @big\n"),
+        (ShapeFault::Memory, ""),
+    ];
+    for (fault, want) in cases {
+        let line = fault_line(alloc, &Fault::Shape(fault))?;
+        assert_eq!(rt; line.as_slice(), want.as_bytes());
+    }
+    Ok(())
+}
+
+/// The names of three functions.
+fn functions(alloc: Global) -> Result<List<Name>, AllocError> {
+    let mut names = List::new(alloc);
+    names.push(text(alloc, "main")?)?;
+    names.push(Name::Number(0))?;
+    names.push(text(alloc, "two words")?)?;
+    Ok(names)
+}
+
+/// Too many of these.
+fn too_many(what: CountKind, limit: u32) -> TypeFault {
+    TypeFault::TooMany { what, limit }
+}
+
+#[test]
+fn tells_each_fault_of_a_module(rt: HostRuntime) -> Result<(), Fail> {
+    let alloc = rt.alloc();
+    let twice = TypeFault::Twice {
+        name: text(alloc, "x")?,
+    };
+    let external = TypeFault::BadExternal {
+        name: text(alloc, "ds_note")?,
+    };
+    let cases = [
+        (twice, "error: twice @x\n"),
+        (
+            too_many(CountKind::Functions, 1_024),
+            "error: too many functions, limit 1024\n",
+        ),
+        (
+            too_many(CountKind::Instructions, 200_000),
+            "error: too many instructions, limit 200000\n",
+        ),
+        (
+            too_many(CountKind::Params, 64),
+            "error: too many parameters, limit 64\n",
+        ),
+        (
+            too_many(CountKind::GlobalWords, 4_096),
+            "error: too many global words, limit 4096\n",
+        ),
+        (external, "error: bad external @ds_note\n"),
+        (TypeFault::NoMain, "error: no main\n"),
+        (TypeFault::Memory, ""),
+    ];
+    for (fault, want) in cases {
+        let line = fault_line(alloc, &Fault::Check(fault, functions(alloc)?))?;
+        assert_eq!(rt; line.as_slice(), want.as_bytes());
+    }
+    Ok(())
+}
+
+#[test]
+fn tells_each_fault_of_a_function(rt: HostRuntime) -> Result<(), Fail> {
+    let alloc = rt.alloc();
+    let none = 4_294_967_295;
+    let twice = TypeFault::TwiceLocal {
+        f: 2,
+        name: Name::Number(4),
+    };
+    let cases = [
+        (twice, "error: twice %4 in @\"two words\"\n"),
+        (
+            TypeFault::BadBlock { f: 0, i: 3 },
+            "error: bad block in @main instruction 3\n",
+        ),
+        (
+            TypeFault::Undefined { f: 1, i: 0 },
+            "error: undefined in @0 instruction 0\n",
+        ),
+        (
+            TypeFault::WrongType { f: 0, i: 199_999 },
+            "error: wrong type in @main instruction 199999\n",
+        ),
+        (
+            TypeFault::WrongType { f: none, i: none },
+            "error: wrong type in a global\n",
+        ),
+        (
+            TypeFault::BadPhi { f: 2, i: 10 },
+            "error: bad phi in @\"two words\" instruction 10\n",
+        ),
+        (
+            TypeFault::NotDominating { f: 0, i: 12 },
+            "error: not defined on every path in @main instruction 12\n",
+        ),
+    ];
+    for (fault, want) in cases {
+        let line = fault_line(alloc, &Fault::Check(fault, functions(alloc)?))?;
+        assert_eq!(rt; line.as_slice(), want.as_bytes());
     }
     Ok(())
 }
