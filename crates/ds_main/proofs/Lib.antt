@@ -1,5 +1,7 @@
 mod Runs
 mod Words
 mod Inputs
+mod Refusals
+mod Counts
 mod Endings
 mod Clauses

@@ -24,7 +24,7 @@ pub record IsRunOfModule (small : Module) (run : RunRecord) : Type 0 where
   pub explained : IsRunOf (program_of small) default_limits small.globals run.stops run.traces
   pub order : IsSomeAnd run.order (IsLegalOrder default_limits small.globals run.traces)
 
--- the run is one of the small module that the input spells, which the source held where it tells its bytes
+-- the run is one of the accepted module that the input spells, as a small one; the source held that input, where it tells its bytes
 pub record IsRunOfInput (left : Option (List ℕ)) (run : RunRecord) : Type 0 where
   pub bytes : List ℕ
   pub small : Module

@@ -1,4 +1,4 @@
-//! The module of the input.
+//! The accepted module of the input.
 
 ghost use Rattle.std.specs.Prelude.{◌≡◌, IfOk, IfErr};
 ghost use Rattle.ds_io.specs.Counts.{Rose};
@@ -6,18 +6,20 @@ ghost use Rattle.ds_main.specs.Ending.{IsInputOf};
 ghost use Rattle.ds_main.specs.Stopped.{Explains, TellsParseFault};
 ghost use Rattle.ds_report.specs.declared.fault.Fault.TheVariants as faults;
 
+use crate::accept::{accept, are_bytes};
 use ds_ast::Module;
 use ds_grammar::ParseFault;
 use ds_io::{ReadAllFault, Source, read_all};
 use ds_lex::LexFault;
 use ds_parse::parse;
+use ds_parse_laws::texts_are_within_bounds;
 use ds_report::Fault;
 use std::alloc::Global;
 
 /// The most bytes that an input may have.
 const LONGEST_INPUT: usize = 8_388_608;
 
-/// Why an input gives no module.
+/// Why an input gives no accepted module.
 #[derive(Debug, Drop)]
 pub enum NoModule {
     /// It has this fault.
@@ -59,10 +61,10 @@ fn refused(fault: ParseFault) -> NoModule
     NoModule::Refused(Fault::Parse(fault))
 }
 
-/// The module that the input spells, which is read to its end.
+/// The accepted module that the input spells, which is read to its end.
 pub fn read_module<S: Source>(alloc: Global, source: &mut S) -> Result<Module, NoModule>
     ensures found { IfOk result (λ m. IsInputOf (S.left source.old) (S.left source.new) m) }
-    ensures none { IfErr result (λ why. Explains (S.left source.old) (Rose (S.faults source.old) (S.faults source.new)) why) }
+    ensures none { IfErr result (λ why. Explains (S.left source.old) (S.left source.new) (Rose (S.faults source.old) (S.faults source.new)) why) }
 {
     let bytes = match read_all(alloc, source, LONGEST_INPUT) {
         Ok(bytes) => bytes,
@@ -70,8 +72,15 @@ pub fn read_module<S: Source>(alloc: Global, source: &mut S) -> Result<Module, N
         Err(ReadAllFault::TooLong) => return Err(NoModule::Refused(Fault::TooLong)),
         Err(ReadAllFault::Memory) => return Err(NoModule::Memory),
     };
-    match parse(alloc, bytes.as_slice()) {
-        Ok(module) => Ok(module),
-        Err(fault) => Err(no_module(fault)),
+    let text = bytes.as_slice();
+    let module = match parse(alloc, text) {
+        Ok(module) => module,
+        Err(fault) => return Err(no_module(fault)),
+    };
+    are_bytes(text);
+    texts_are_within_bounds();
+    match accept(alloc, &module) {
+        Ok(()) => Ok(module),
+        Err(why) => Err(why),
     }
 }

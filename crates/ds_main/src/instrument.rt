@@ -1,7 +1,9 @@
-//! The job `instrument`: writes the canonical text of the module of the input.
+//! The job `instrument`: writes the canonical text of the accepted module of the input.
 
 ghost use Rattle.std.specs.Prelude.{◌≡◌};
-ghost use Rattle.ds_main.specs.Ending.{InstrumentEnds};
+ghost use Rattle.ds_print.specs.Canonical.{canon};
+ghost use Rattle.ds_main.specs.declared.job.Job.TheVariants as jobs;
+ghost use Rattle.ds_main.specs.Ending.{AnswerEnds};
 
 use crate::deliver::{DONE, deliver};
 use crate::input::read_module;
@@ -13,7 +15,7 @@ use std::alloc::Global;
 
 /// Reads a module and writes its canonical text.
 pub fn instrument<S: Source, K: Sink>(alloc: Global, source: &mut S, sink: &mut K) -> Ended
-    ensures { InstrumentEnds (S.left source.old) (S.left source.new) (S.faults source.old) (S.faults source.new)
+    ensures { AnswerEnds jobs.Instrument canon (S.left source.old) (S.left source.new) (S.faults source.old) (S.faults source.new)
         (K.taken sink.old) (K.taken sink.new) (K.faults sink.old) (K.faults sink.new) result.status result.run }
 {
     let module = match read_module(alloc, source) {

@@ -10,6 +10,8 @@ use thiserror::Error;
 pub enum Job {
     /// Run the module that the input spells, and report the run.
     Replay,
+    /// Tell that the module that the input spells is accepted, and how much it has.
+    Check,
     /// Write the canonical text of the module that the input spells.
     Instrument,
 }
@@ -32,7 +34,7 @@ fn is_only_word(words: &[String], word: &[u8]) -> bool
     }
 }
 
-/// The job that has these words, which stand behind the program's name: `replay` alone, or `instrument` alone.
+/// The job that has these words, which stand behind the program's name: `replay`, `check` or `instrument` alone.
 ///
 /// # Errors
 ///
@@ -43,6 +45,8 @@ pub fn read_words(words: &[String]) -> Result<Job, ArgsFault>
 {
     if is_only_word(words, b"replay") {
         Ok(Job::Replay)
+    } else if is_only_word(words, b"check") {
+        Ok(Job::Check)
     } else if is_only_word(words, b"instrument") {
         Ok(Job::Instrument)
     } else {

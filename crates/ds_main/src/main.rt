@@ -1,11 +1,16 @@
-//! The program `dangsan`: reads a module, and writes its canonical text, or runs it on shared words and reports what happened.
+//! The program `dangsan`: reads a module that keeps all rules, and tells how much it has, writes its canonical text, or runs it on shared words and
+//! reports what happened.
 #![tactic(auto)]
 
+mod accept;
+mod accepted;
+mod check;
 mod deliver;
 mod entry;
 mod input;
 mod instrument;
 mod job;
+mod laws;
 mod pace;
 mod refuse;
 mod replay;
@@ -13,6 +18,8 @@ mod run;
 
 use ds_io::{StdSink, StdSource};
 
+#[cfg(test)]
+mod check_tests;
 #[cfg(test)]
 mod tests;
 #[cfg(test)]

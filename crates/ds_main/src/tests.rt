@@ -137,14 +137,10 @@ main trapped; prints 1 mallocs 0 frees 0 notes 0 marks 0 traps 1\n",
 
 #[test]
 fn refuses_modules_of_another_form(rt: HostRuntime) -> Result<(), Fail> {
-    let texts: [&[u8]; 6] = [
-        b"define void @main() { %a = load i64, ptr @g ret void } declare void @print_i64(i64)",
-        b"define void @main() { call void @print_i64(i64 %a) %a = load i64, ptr null ret void }
-declare void @print_i64(i64)",
-        b"@main = global i64 1 define void @main() { ret void } declare void @print_i64(i64)",
-        b"@print_i64 = global i64 1 define void @main() { ret void } declare void @print_i64(i64)",
-        b"@ds_g = global i64 1 define void @main() { ret void } declare void @print_i64(i64)",
+    let texts: [&[u8]; 3] = [
         b"%s = type { i64 } define void @main() { ret void } declare void @print_i64(i64)",
+        b"@g = global i64 zeroinitializer define void @main() { ret void } declare void @print_i64(i64)",
+        b"@g = global i8 1 define void @main() { ret void } declare void @print_i64(i64)",
     ];
     for text in texts {
         let (ended, sink) = run_on(&rt, "replay", text, 4096, (NEVER, NEVER), 256)?;
@@ -179,14 +175,7 @@ fn tells_each_fault_and_runs_nothing(rt: HostRuntime) -> Result<(), Fail> {
             4,
             b"error: read failed\n",
         ),
-        (
-            "replay",
-            b"",
-            (NEVER, NEVER),
-            256,
-            1,
-            b"error: not in this stage's form\n",
-        ),
+        ("replay", b"", (NEVER, NEVER), 256, 1, b"error: no main\n"),
         (
             "replay",
             b"ret void",
@@ -224,7 +213,7 @@ fn keeps_the_record_where_the_sink_fails(rt: HostRuntime) -> Result<(), Fail> {
 fn refuses_an_input_of_one_byte_too_many(rt: HostRuntime) -> Result<(), Fail> {
     let cases: [(usize, &[u8]); 2] = [
         (8_388_609, b"error: input longer than 8388608 bytes\n"),
-        (8_388_608, b"error: not in this stage's form\n"),
+        (8_388_608, b"error: no main\n"),
     ];
     for (length, taken) in cases {
         let blanks = vec![in rt.alloc(); b' '; length]?;
@@ -238,8 +227,10 @@ fn refuses_an_input_of_one_byte_too_many(rt: HostRuntime) -> Result<(), Fail> {
 #[test]
 fn reads_the_words_of_a_job(rt: HostRuntime) -> Result<(), Fail> {
     let replay = vec![in rt.alloc(); String::from_str(rt.alloc(), "replay")?]?;
+    let check = vec![in rt.alloc(); String::from_str(rt.alloc(), "check")?]?;
     let instrument = vec![in rt.alloc(); String::from_str(rt.alloc(), "instrument")?]?;
     assert_eq!(rt; read_words(replay.as_slice()).ok(), Some(Job::Replay));
+    assert_eq!(rt; read_words(check.as_slice()).ok(), Some(Job::Check));
     assert_eq!(rt;
         read_words(instrument.as_slice()).ok(),
         Some(Job::Instrument)

@@ -1,4 +1,4 @@
-//! Texts through `instrument`: what is refused and where, and what is written.
+//! Texts through `check` and `instrument`: what is refused and where, and what is written.
 
 use crate::tests::{NEVER, run_on};
 use std::alloc::AllocError;
@@ -57,6 +57,10 @@ define dso_local i32 @sum(i32 noundef %0, ptr noundef %1) #0 {
   ret i32 %17
 }
 
+define dso_local i32 @main() #0 {
+  ret i32 0
+}
+
 declare noalias ptr @malloc(i64 noundef) #1
 
 attributes #0 = { noinline nounwind uwtable \"frame-pointer\"=\"all\" }
@@ -105,7 +109,32 @@ define i32 @sum(i32 %0, ptr %1) {
   %17 = select i1 true, i32 %16, i32 7
   ret i32 %17
 }
+define i32 @main() {
+0:
+  ret i32 0
+}
 declare ptr @malloc(i64)
+";
+
+/// The least program as clang writes it.
+const PLAIN_MAIN: &[u8] = b"; ModuleID = 'a.c'
+source_filename = \"a.c\"
+target triple = \"x86_64-unknown-linux-gnu\"
+define dso_local i32 @main() #0 {
+  %1 = alloca i32, align 4
+  store i32 0, ptr %1, align 4
+  ret i32 0
+}
+attributes #0 = { noinline nounwind \"frame-pointer\"=\"all\" }
+!llvm.module.flags = !{!0}
+!0 = !{i32 1, !\"wchar_size\", i32 4}
+";
+
+/// A canonical text of nothing but a `main`.
+const VOID_MAIN: &[u8] = b"define void @main() {
+0:
+  ret void
+}
 ";
 
 /// A fault is told in one line.
@@ -134,23 +163,11 @@ fn repeated(
 
 #[test]
 fn writes_canonical_texts(rt: HostRuntime) -> Result<(), Fail> {
-    let cases: [(&[u8], &[u8]); 5] = [
-        (b"", b""),
+    let cases: [(&[u8], &[u8]); 4] = [
         (CLANG, CANONICAL),
         (CANONICAL, CANONICAL),
         (
-            b"; ModuleID = 'a.c'
-source_filename = \"a.c\"
-target triple = \"x86_64-unknown-linux-gnu\"
-define dso_local newword(i32 0, 5) i32 @main() #0 {
-  %1 = alloca i32, align 4
-  store i32 0, ptr %1, align 4
-  ret i32 0
-}
-attributes #0 = { noinline nounwind \"frame-pointer\"=\"all\" }
-!llvm.module.flags = !{!0}
-!0 = !{i32 1, !\"wchar_size\", i32 4}
-",
+            PLAIN_MAIN,
             b"define i32 @main() {
 0:
   %1 = alloca i32
@@ -160,16 +177,24 @@ attributes #0 = { noinline nounwind \"frame-pointer\"=\"all\" }
 ",
         ),
         (
-            b"declare void @\"\\41\"(i8 %x) @\"1\" = constant i8 -56 %\"b c\\ff\" = type { }
-define void @-f() { \"-a\": call void @A(i8 200) fence acquire br label %-a }",
+            b"declare void @\"\\66ree\"(ptr %x) @\"1\" = constant i8 -56 %\"b c\\ff\" = type { }
+define void @-f() { \"-a\": call void @free(ptr null) fence acquire store i8 200, ptr @\"1\" br label %-b \"-b\": ret void }
+define void @main() { ret void }",
             b"%\"b c\\FF\" = type { }
 @\"1\" = global i8 -56
-declare void @A(i8)
+declare void @free(ptr)
 define void @-f() {
 \"-a\":
-  call void @A(i8 -56)
+  call void @free(ptr null)
   fence seq_cst
-  br label %-a
+  store i8 -56, ptr @\"1\"
+  br label %-b
+\"-b\":
+  ret void
+}
+define void @main() {
+0:
+  ret void
 }
 ",
         ),
@@ -224,19 +249,106 @@ fn refuses_texts_of_no_module(rt: HostRuntime) -> Result<(), Fail> {
 }
 
 #[test]
+fn refuses_modules_that_are_not_accepted(rt: HostRuntime) -> Result<(), Fail> {
+    let cases: [(&[u8], &[u8]); 12] = [
+        (b"", b"error: no main\n"),
+        (
+            b"define i32 @main() { ret i32 %x }",
+            b"error: undefined in @main instruction 0\n",
+        ),
+        (
+            b"declare void @print_i64(i64) define void @main() { %a = load i64, ptr @g ret void }",
+            b"error: undefined in @main instruction 0\n",
+        ),
+        (
+            b"declare ptr @calloc(i64, i64) define void @main() { ret void }",
+            b"error: bad external @calloc\n",
+        ),
+        (
+            b"@ds_g = global i64 1 define void @main() { ret void }",
+            b"error: bad external @ds_g\n",
+        ),
+        (
+            b"@g = global i64 1 @g = global i64 1 define void @main() { ret void }",
+            b"error: twice @g\n",
+        ),
+        (
+            b"@main = global i64 1 define void @main() { ret void }",
+            b"error: twice @main\n",
+        ),
+        (
+            b"%a = type { %a } define void @main() { ret void }",
+            b"error: recursive type %a\n",
+        ),
+        (
+            b"@g = global ptr null define void @main() { store i1 true, ptr @g ret void }",
+            b"error: wrong type in @main instruction 0\n",
+        ),
+        (
+            b"define void @main() { call void @print_i64(i64 %a) %a = load i64, ptr null ret void }
+declare void @print_i64(i64)",
+            b"error: not defined on every path in @main instruction 0\n",
+        ),
+        (
+            b"define i32 @main() { br i1 true, label %a, label %b a: %x = add i32 1, 2 br label %c
+b: br label %c c: ret i32 %x }",
+            b"error: not defined on every path in @main instruction 4\n",
+        ),
+        (
+            b"define void @main() { ret void } define void @f() { 0: br label %0 }",
+            b"error: bad block in @f instruction 0\n",
+        ),
+    ];
+    for (text, taken) in cases {
+        for word in ["check", "instrument", "replay"] {
+            let (ended, sink) = run_on(&rt, word, text, 4096, (NEVER, NEVER), ROOM)?;
+            assert_eq!(rt; sink.taken(), taken, "at {word}");
+            assert_eq!(rt; ended.status, 1, "at {word}");
+            assert!(rt; ended.run.stops.as_slice().is_empty());
+        }
+    }
+    Ok(())
+}
+
+#[test]
+fn counts_what_is_accepted(rt: HostRuntime) -> Result<(), Fail> {
+    let cases: [(&[u8], &[u8]); 4] = [
+        (PLAIN_MAIN, b"accepted: functions 1 instructions 3\n"),
+        (
+            b"define dso_local newword(i32 0, 5) i32 @main() #0 { ret i32 0 } attributes #0 = { nounwind }",
+            b"accepted: functions 1 instructions 1\n",
+        ),
+        (CLANG, b"accepted: functions 2 instructions 20\n"),
+        (
+            b"declare void @free(ptr) define void @main() { ret void }",
+            b"accepted: functions 1 instructions 1\n",
+        ),
+    ];
+    for (text, taken) in cases {
+        let (ended, sink) = run_on(&rt, "check", text, 4096, (NEVER, NEVER), ROOM)?;
+        assert_eq!(rt; sink.taken(), taken);
+        assert_eq!(rt; ended.status, 0);
+        assert!(rt; ended.run.stops.as_slice().is_empty());
+    }
+    Ok(())
+}
+
+#[test]
 fn counts_what_nests(rt: HostRuntime) -> Result<(), Fail> {
     let deep = repeated(&rt, b"@g = global ", b"[1 x ", 32, b"i8")?;
     let deep = repeated(&rt, deep.as_slice(), b"]", 32, b" zeroinitializer\n")?;
+    let deep = repeated(&rt, deep.as_slice(), VOID_MAIN, 1, b"")?;
     let deeper = repeated(&rt, b"@g = global ", b"[1 x ", 33, b"i8")?;
     let deeper = repeated(&rt, deeper.as_slice(), b"]", 33, b" zeroinitializer\n")?;
     let open = repeated(&rt, b"%a = type { %a } @g = global %a ", b"{ %a ", 64, b"{")?;
     let metadata = repeated(&rt, b"!0 = !{", b"!{", 10_000, b"i32 1")?;
-    let metadata = repeated(&rt, metadata.as_slice(), b"}", 10_000, b"}")?;
+    let metadata = repeated(&rt, metadata.as_slice(), b"}", 10_000, b"} ")?;
+    let metadata = repeated(&rt, metadata.as_slice(), VOID_MAIN, 1, b"")?;
     let cases: [(&[u8], u8, &[u8]); 4] = [
         (deep.as_slice(), 0, deep.as_slice()),
         (deeper.as_slice(), 1, b"error: type too deep at 12\n"),
         (open.as_slice(), 1, b"error: type too deep at 352\n"),
-        (metadata.as_slice(), 0, b""),
+        (metadata.as_slice(), 0, VOID_MAIN),
     ];
     for (text, status, taken) in cases {
         let (ended, sink) = run_on(&rt, "instrument", text, 4096, (NEVER, NEVER), ROOM)?;

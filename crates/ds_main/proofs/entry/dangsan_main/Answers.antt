@@ -27,7 +27,7 @@ pub returns-clause-refused : goal.returns-clause-refused
 returns-clause-refused g c = clauses.refused _ c.answer.ensures
 
 pub returns-clause-refusal_is_told : goal.returns-clause-refusal_is_told
-returns-clause-refusal_is_told g c = clauses.refusal_is_told _ c.texts_spell_one_module.ensures c.texts_are_not_refused.ensures c.answer.ensures
+returns-clause-refusal_is_told g c = clauses.refusal_is_told _ c.accepted_inputs_are_not_refused.ensures c.answer.ensures
 
 pub returns-clause-fault_line : goal.returns-clause-fault_line
 returns-clause-fault_line g c = clauses.fault_line _ c.answer.ensures
@@ -45,10 +45,10 @@ pub returns-clause-statuses : goal.returns-clause-statuses
 returns-clause-statuses g c = clauses.statuses _ c.answer.ensures
 
 pub returns-clause-run_is_made : goal.returns-clause-run_is_made
-returns-clause-run_is_made g c = clauses.run_is_made _ c.texts_spell_one_module.ensures c.texts_are_not_refused.ensures c.answer.ensures
+returns-clause-run_is_made g c = clauses.run_is_made _ c.accepted_inputs_are_not_refused.ensures c.answer.ensures
 
 pub returns-clause-complete : goal.returns-clause-complete
-returns-clause-complete g c = clauses.complete _ c.texts_spell_one_module.ensures c.texts_are_not_refused.ensures c.answer.ensures
+returns-clause-complete g c = clauses.complete _ c.accepted_inputs_are_not_refused.ensures c.answer.ensures
 
 pub returns-clause-run_status : goal.returns-clause-run_status
 returns-clause-run_status g c = clauses.run_status_is _ c.answer.ensures
@@ -56,5 +56,8 @@ returns-clause-run_status g c = clauses.run_status_is _ c.answer.ensures
 pub returns-clause-instrumented : goal.returns-clause-instrumented
 returns-clause-instrumented g c = clauses.instrumented _ c.answer.ensures
 
-pub returns-clause-instrument_status : goal.returns-clause-instrument_status
-returns-clause-instrument_status g c = clauses.instrument_status _ c.answer.ensures
+pub returns-clause-checked : goal.returns-clause-checked
+returns-clause-checked g c = clauses.checked _ c.answer.ensures
+
+pub returns-clause-trap_status : goal.returns-clause-trap_status
+returns-clause-trap_status g c = clauses.trap_status _ c.answer.ensures

@@ -1,0 +1,32 @@
+//! The job `check`: tells that the module of the input is accepted, and how much it has.
+
+ghost use Rattle.std.specs.Prelude.{◌≡◌};
+ghost use Rattle.ds_main.specs.declared.job.Job.TheVariants as jobs;
+ghost use Rattle.ds_main.specs.Text.{accepted_text};
+ghost use Rattle.ds_main.specs.Ending.{AnswerEnds};
+
+use crate::accepted::accepted_line;
+use crate::deliver::{DONE, deliver};
+use crate::input::read_module;
+use crate::refuse::{out_of_memory, stop};
+use ds_core::{Ended, RunRecord};
+use ds_io::{Sink, Source};
+use std::alloc::Global;
+
+/// Reads a module and writes that it is accepted.
+pub fn check<S: Source, K: Sink>(alloc: Global, source: &mut S, sink: &mut K) -> Ended
+    ensures { AnswerEnds jobs.Check accepted_text (S.left source.old) (S.left source.new) (S.faults source.old) (S.faults source.new)
+        (K.taken sink.old) (K.taken sink.new) (K.faults sink.old) (K.faults sink.new) result.status result.run }
+{
+    let module = match read_module(alloc, source) {
+        Ok(module) => module,
+        Err(why) => return stop(alloc, sink, &why),
+    };
+    match accepted_line(alloc, &module) {
+        Ok(line) => Ended {
+            status: deliver(sink, line.as_slice(), DONE),
+            run: RunRecord::empty(alloc),
+        },
+        Err(_) => out_of_memory(alloc),
+    }
+}
