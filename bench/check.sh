@@ -48,21 +48,14 @@ MAKERS = {
 print(MAKERS[kind](count))
 PYTHON
 
-failed=0
-# measures the input under this label, which should be accepted
-timed() {
-    measure "$1" "$work/input" check | tee "$work/line"
-    grep -q 'status 0$' "$work/line" || failed=1
-}
-
 for count in 94 188 376 752; do
     python3 "$top/bench/clang_module.py" "$count" >"$work/input"
-    timed "$count module"
+    timed "$count module" check 0
 done
 while read -r kind counts; do
     for count in $counts; do
         python3 "$work/generate.py" "$kind" "$count" >"$work/input"
-        timed "$count $kind"
+        timed "$count $kind" check 0
     done
 done <<'INPUTS'
 one_block 25000 50000 100000 199990

@@ -25,12 +25,10 @@ MAKERS = {
 print(MAKERS[kind](count))
 PYTHON
 
-failed=0
 while read -r kind status line; do
     for count in 12500 25000 50000 100000; do
         python3 "$work/generate.py" "$kind" "$count" >"$work/input"
-        measure "$count $kind" "$work/input" check | tee "$work/line"
-        grep -q "status $status\$" "$work/line" || failed=1
+        timed "$count $kind" check "$status"
         (ulimit -s 200; "$top/crates/ds_main/out/ds_main" check <"$work/input" >"$work/out" || true)
         grep -qx "$(echo "$line" | sed "s/COUNT/$count/")" "$work/out" || failed=1
     done

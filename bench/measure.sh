@@ -26,3 +26,11 @@ peak = resource.getrusage(resource.RUSAGE_CHILDREN).ru_maxrss / 1024
 print(f"{label:<28} {os.path.getsize(path):>9} bytes  {best:7.3f} s  {peak:7.1f} MB  status {status}")
 PYTHON
 }
+
+# Measures the input "$work/input" with a job that should end with this status; where it ends with another, failed is 1 from then on.
+# usage: timed LABEL WORD STATUS
+failed=0
+timed() {
+    measure "$1" "$work/input" "$2" | tee "$work/line"
+    grep -q "status $3\$" "$work/line" || failed=1
+}

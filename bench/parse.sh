@@ -46,23 +46,16 @@ MAKERS = {
 print(MAKERS[kind](count))
 PYTHON
 
-failed=0
-# measures the input under this label, which should end with this status
-timed() {
-    measure "$1" "$work/input" instrument | tee "$work/line"
-    grep -q "status $2\$" "$work/line" || failed=1
-}
-
 for count in 94 188 376 752; do
     python3 "$top/bench/clang_module.py" "$count" >"$work/input"
-    timed "$count module" 0
+    timed "$count module" instrument 0
 done
 "$top/crates/ds_main/out/ds_main" instrument <"$work/input" >"$work/once" || failed=1
 "$top/crates/ds_main/out/ds_main" instrument <"$work/once" | cmp - "$work/once" || failed=1
 while read -r kind status counts; do
     for count in $counts; do
         python3 "$work/generate.py" "$kind" "$count" >"$work/input"
-        timed "$count $kind" "$status"
+        timed "$count $kind" instrument "$status"
     done
 done <<'INPUTS'
 instructions 0 25000 50000 100000 199992
