@@ -248,58 +248,60 @@ fn refuses_texts_of_no_module(rt: HostRuntime) -> Result<(), Fail> {
     Ok(())
 }
 
+/// Modules that are not accepted, each with its line.
+const NOT_ACCEPTED: [(&[u8], &[u8]); 12] = [
+    (b"", b"error: no main\n"),
+    (
+        b"define i32 @main() { ret i32 %x }",
+        b"error: undefined in @main instruction 0\n",
+    ),
+    (
+        b"declare void @print_i64(i64) define void @main() { %a = load i64, ptr @g ret void }",
+        b"error: undefined in @main instruction 0\n",
+    ),
+    (
+        b"declare ptr @calloc(i64, i64) define void @main() { ret void }",
+        b"error: bad external @calloc\n",
+    ),
+    (
+        b"@ds_g = global i64 1 define void @main() { ret void }",
+        b"error: bad external @ds_g\n",
+    ),
+    (
+        b"@g = global i64 1 @g = global i64 1 define void @main() { ret void }",
+        b"error: twice @g\n",
+    ),
+    (
+        b"@main = global i64 1 define void @main() { ret void }",
+        b"error: twice @main\n",
+    ),
+    (
+        b"%a = type { %a } define void @main() { ret void }",
+        b"error: recursive type %a\n",
+    ),
+    (
+        b"@g = global ptr null define void @main() { store i1 true, ptr @g ret void }",
+        b"error: wrong type in @main instruction 0\n",
+    ),
+    (
+        b"define void @main() { call void @print_i64(i64 %a) %a = load i64, ptr null ret void }
+declare void @print_i64(i64)",
+        b"error: not defined on every path in @main instruction 0\n",
+    ),
+    (
+        b"define i32 @main() { br i1 true, label %a, label %b a: %x = add i32 1, 2 br label %c
+b: br label %c c: ret i32 %x }",
+        b"error: not defined on every path in @main instruction 4\n",
+    ),
+    (
+        b"define void @main() { ret void } define void @f() { 0: br label %0 }",
+        b"error: bad block in @f instruction 0\n",
+    ),
+];
+
 #[test]
 fn refuses_modules_that_are_not_accepted(rt: HostRuntime) -> Result<(), Fail> {
-    let cases: [(&[u8], &[u8]); 12] = [
-        (b"", b"error: no main\n"),
-        (
-            b"define i32 @main() { ret i32 %x }",
-            b"error: undefined in @main instruction 0\n",
-        ),
-        (
-            b"declare void @print_i64(i64) define void @main() { %a = load i64, ptr @g ret void }",
-            b"error: undefined in @main instruction 0\n",
-        ),
-        (
-            b"declare ptr @calloc(i64, i64) define void @main() { ret void }",
-            b"error: bad external @calloc\n",
-        ),
-        (
-            b"@ds_g = global i64 1 define void @main() { ret void }",
-            b"error: bad external @ds_g\n",
-        ),
-        (
-            b"@g = global i64 1 @g = global i64 1 define void @main() { ret void }",
-            b"error: twice @g\n",
-        ),
-        (
-            b"@main = global i64 1 define void @main() { ret void }",
-            b"error: twice @main\n",
-        ),
-        (
-            b"%a = type { %a } define void @main() { ret void }",
-            b"error: recursive type %a\n",
-        ),
-        (
-            b"@g = global ptr null define void @main() { store i1 true, ptr @g ret void }",
-            b"error: wrong type in @main instruction 0\n",
-        ),
-        (
-            b"define void @main() { call void @print_i64(i64 %a) %a = load i64, ptr null ret void }
-declare void @print_i64(i64)",
-            b"error: not defined on every path in @main instruction 0\n",
-        ),
-        (
-            b"define i32 @main() { br i1 true, label %a, label %b a: %x = add i32 1, 2 br label %c
-b: br label %c c: ret i32 %x }",
-            b"error: not defined on every path in @main instruction 4\n",
-        ),
-        (
-            b"define void @main() { ret void } define void @f() { 0: br label %0 }",
-            b"error: bad block in @f instruction 0\n",
-        ),
-    ];
-    for (text, taken) in cases {
+    for (text, taken) in NOT_ACCEPTED {
         for word in ["check", "instrument", "replay"] {
             let (ended, sink) = run_on(&rt, word, text, 4096, (NEVER, NEVER), ROOM)?;
             assert_eq!(rt; sink.taken(), taken, "at {word}");
