@@ -1,33 +1,8 @@
-//! The program `dangsan`: reads a module that keeps all rules, and tells how much it has, writes its canonical text, or runs it on shared words and
-//! reports what happened.
+//! The program `dangsan`: calls [`dangsan_main`] on its words, its standard input and its standard output, and ends with the status of that.
 #![tactic(auto)]
 
-mod accept;
-mod accepted;
-mod check;
-mod deliver;
-mod entry;
-mod input;
-mod instrument;
-mod job;
-mod laws;
-mod pace;
-mod refuse;
-mod replay;
-mod run;
-
 use ds_io::{StdSink, StdSource};
-
-#[cfg(test)]
-mod check_tests;
-#[cfg(test)]
-mod tests;
-#[cfg(test)]
-mod text_tests;
-
-pub use entry::dangsan_main;
-pub use job::{ArgsFault, Job, read_words};
-pub use pace::{FreePace, Pace};
+use ds_main::{FreePace, dangsan_main};
 use std::env;
 use std::env::Env;
 use std::process::ExitCode;

@@ -1,0 +1,28 @@
+//! The top call of `dangsan`: reads a module that keeps all rules, and tells how much it has, writes its canonical text, or runs it on shared words and
+//! reports what happened.
+#![tactic(auto)]
+
+mod accept;
+mod accepted;
+mod check;
+mod deliver;
+mod entry;
+mod input;
+mod instrument;
+mod job;
+mod laws;
+mod pace;
+mod refuse;
+mod replay;
+mod run;
+
+#[cfg(test)]
+mod check_tests;
+#[cfg(test)]
+mod tests;
+#[cfg(test)]
+mod text_tests;
+
+pub use entry::dangsan_main;
+pub use job::{ArgsFault, Job, read_words};
+pub use pace::{FreePace, Pace};
