@@ -17,11 +17,7 @@ mod replay;
 mod run;
 
 #[cfg(test)]
-mod check_tests;
-#[cfg(test)]
 mod tests;
-#[cfg(test)]
-mod text_tests;
 
 pub use entry::dangsan_main;
 pub use job::{ArgsFault, Job, read_words};
