@@ -1,5 +1,6 @@
 -- The definition of the bounds, tried on small modules: which are within them and which are not.
-use Rattle.std.proofs.Common.{◌≡◌, ◌^◌, ◌<◌, ◌≤◌, ℕ, zero, suc, List, [], ◌∷◌, Some, None, refl, sym, lit<, lit≤, true≢false, arith}
+use Rattle.std.proofs.Common.{◌≡◌, ◌^◌, ◌<◌, ◌≤◌, ℕ, zero, suc, List, [], ◌∷◌, Some, None, refl, sym, lit<, lit≤}
+use Rattle.std.proofs.Common.{true≢false, arith}
 use Rattle.std.specs.Prelude.{All}
 use Rattle.std.proofs.lemmas.List.Elements.{All-cons, All-head}
 use Rattle.ds_ast.specs.declared.name.Name.TheVariants.{Number}
@@ -25,7 +26,8 @@ use Rattle.ds_ast.specs.declared.module.Block.{Block}
 use Rattle.ds_ast.specs.declared.ty.Ty.TheBlock.{hidden-the_row-Ty-0}
 use Rattle.ds_ast.specs.declared.init.Init.TheBlock.{hidden-the_row-Init-0}
 use denote.Hole.Carrier.{hidden}
-use Rattle.ds_ast.specs.Bounds.{IsName, IsType, counts, innermost, IsNamed, IsCase, IsOp, IsInstr, IsBlock, IsCounted, IsFunction, brackets, Fits, IsStruct, IsGlobal, Bounds}
+use Rattle.ds_ast.specs.Bounds.{IsName, IsType, counts, innermost, IsNamed, IsCase, IsOp, IsInstr, IsBlock, IsCounted}
+use Rattle.ds_ast.specs.Bounds.{IsFunction, brackets, Fits, IsStruct, IsGlobal, Bounds}
 
 none : {X : Type 0} (P : X → Type 0) → All P []
 none P k d h = grind arith
@@ -152,7 +154,8 @@ whole_is = record {
 }
 
 -- numbers that do not rise: the result is %1 behind the label %1
-not_risen : IsFunction (function (parameter 0 ∷ []) (block 1 (named 1 (Bin Add I32 Undef Undef) ∷ unnamed Unreachable ∷ []) ∷ [])) → ⊥
+not_risen : IsFunction (function (parameter 0 ∷ [])
+    (block 1 (named 1 (Bin Add I32 Undef Undef) ∷ unnamed Unreachable ∷ []) ∷ [])) → ⊥
 not_risen is = let h : 2 ≤ 1 = is.counted.1.1.0 in omega (arith, h)
 
 -- a parameter numbered behind the label: parameters come first

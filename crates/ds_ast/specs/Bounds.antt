@@ -1,5 +1,7 @@
--- When a module is within its bounds: each literal, count, depth and number of a name is in its range, and each part has the shape that its text gives it.
-use Rattle.std.specs.Prelude.{◌≡◌, ◌+◌, ◌^◌, ◌<◌, ◌≤◌, ◌++◌, ℕ, Bool, true, false, max, List, [], ◌∷◌, map, length, flat_map, Option, Some, None, All, IfSome, is_some, ◌==◌, bytes_eq, if◌then◌else◌}
+-- When a module is within its bounds: each literal, count, depth and number of a name is in its range, and each part
+-- has the shape that its text gives it.
+use Rattle.std.specs.Prelude.{◌≡◌, ◌+◌, ◌^◌, ◌<◌, ◌≤◌, ◌++◌, ℕ, Bool, true, false, max, List, [], ◌∷◌, map, length}
+use Rattle.std.specs.Prelude.{flat_map, Option, Some, None, All, IfSome, is_some, ◌==◌, bytes_eq, if◌then◌else◌}
 use Rattle.std.specs.Option.{option_to_list}
 use Rattle.ds_ast.specs.declared.name.Name.{Name}
 use Rattle.ds_ast.specs.declared.name.Name.TheVariants.{Number, Text}
@@ -11,7 +13,9 @@ use Rattle.ds_ast.specs.declared.value.Value.TheVariants.{Int, Null, Undef, Loca
 use Rattle.ds_ast.specs.declared.operand.Operand.{Operand}
 use Rattle.ds_ast.specs.declared.operand.Arm.{Arm}
 use Rattle.ds_ast.specs.declared.instr.Op.{Op}
-use Rattle.ds_ast.specs.declared.instr.Op.TheVariants.{Bin, Icmp, Select, Cast, Alloca, Load, Store, Gep, Call, Phi, Rmw, Cmpxchg, Extract, Fence, Ret, Br, CondBr, Switch, Unreachable}
+use Rattle.ds_ast.specs.declared.instr.Op.TheVariants.{Bin, Icmp, Select, Cast, Alloca, Load, Store, Gep, Call, Phi}
+use Rattle.ds_ast.specs.declared.instr.Op.TheVariants.{Rmw, Cmpxchg, Extract, Fence, Ret, Br, CondBr, Switch}
+use Rattle.ds_ast.specs.declared.instr.Op.TheVariants.{Unreachable}
 use Rattle.ds_ast.specs.declared.instr.Instr.{Instr}
 use Rattle.ds_ast.specs.declared.init.Init.{Init, Zero, Word, Array', Fields', Row_of-Init, end_of-Init, more_of-Init}
 use Rattle.ds_ast.specs.declared.module.Module.{Module}
@@ -82,7 +86,8 @@ IsArm ty arm = IsValue (width ty) arm.value × IsName arm.from
 abbrev pub IsCase : Scalar → ℕ × Name → Type 0
 IsCase ty case = (case.0 < 2 ^ width ty) × IsName case.1
 
--- what the instruction is given is in range: literals by the type that stands before them, an address as 64 bits, a condition as one
+-- what the instruction is given is in range: literals by the type that stands before them, an address as 64 bits, a
+-- condition as one
 abbrev pub IsOp : Op → Type 0
 IsOp (Bin op ty a b) = IsValue (width ty) a × IsValue (width ty) b
 IsOp (Icmp condition ty a b) = IsValue (width ty) a × IsValue (width ty) b
@@ -197,8 +202,8 @@ abbrev pub IsNumbered : ℕ → List Param → Type 0
 IsNumbered n [] = Unit {0}
 IsNumbered n (param ∷ params) = (param.name ≡ Number n) × IsNumbered (n + 1) params
 
--- The function's parts are in range, and the numbers that it names rise from 0. A declaration has no blocks, and its parameters are the
--- numbers from 0.
+-- The function's parts are in range, and the numbers that it names rise from 0. A declaration has no blocks, and its
+-- parameters are the numbers from 0.
 pub record IsFunction (function : Function) : Type 0 where
   pub name : IsName function.name
   pub result : IsType function.result
@@ -254,7 +259,8 @@ element_type (One scalar) = None
 element_type (Array' count _ (more_of-Ty of end_of-Ty)) = Some of
 element_type (Struct name) = None
 
--- the types of the elements in curly brackets behind the type: those of the struct's fields; there is no list where they may not stand
+-- the types of the elements in curly brackets behind the type: those of the struct's fields; there is no list where
+-- they may not stand
 abbrev pub field_types : List StructDef → Ty → Option (List Ty)
 field_types structs Void = Some []
 field_types structs (One scalar) = Some []
@@ -263,8 +269,8 @@ field_types structs (Struct name) = fields_of structs name
 
 module _ (structs : List StructDef) where
   abbrev mutual
-    -- The initialiser may stand behind the type: a literal is in its range, and each element has a type to be written behind. An array may
-    -- have too few elements and too many, a struct too few.
+    -- The initialiser may stand behind the type: a literal is in its range, and each element has a type to be written
+    -- behind. An array may have too few elements and too many, a struct too few.
     pub Fits : Ty → Init → Type 0
     Fits ty Zero = Unit {0}
     Fits ty (Word value) = IsConstant value × IsValue (width_at ty) value

@@ -1,4 +1,5 @@
--- Equality of values, as a test. Every type of a program has a code: a map of its values into trees of numbers that is one to one.
+-- Equality of values, as a test. Every type of a program has a code: a map of its values into trees of numbers that
+-- is one to one.
 use Rattle.std.specs.Prelude.{◌≡◌, Bool, true, false, ◌&&◌, refl}
 use Rattle.std.specs.Coded.{Coded}
 use Rattle.std.specs.Cmp.{IsPartialEquivalence, IsEquivalence, both_ways}
@@ -63,7 +64,8 @@ module _ {A : Type 0} (c : Coded A) where
 
   pub equal_laws : IsPartialEquivalence (is_equal c)
   equal_laws = record {
-    symm = λ x y. both_ways (is_equal c x y) (is_equal c y x) (λ t. is_equal_of y x (sym (equal_is x y t))) (λ t. is_equal_of x y (sym (equal_is y x t)));
+    symm = λ x y. both_ways (is_equal c x y) (is_equal c y x) (λ t. is_equal_of y x (sym (equal_is x y t)))
+        (λ t. is_equal_of x y (sym (equal_is y x t)));
     trans = λ x y z p q. is_equal_of x z (equal_is x y p ∙ equal_is y z q);
   }
 
@@ -71,5 +73,7 @@ module _ {A : Type 0} (c : Coded A) where
   equal_equivalence = record {
     refl = λ x. is_equal_of x x refl;
     symm = equal_laws.symm;
-    congr = λ x y z p. both_ways (is_equal c x z) (is_equal c y z) (λ t. is_equal_of y z (sym (equal_is x y p) ∙ equal_is x z t)) (λ t. is_equal_of x z (equal_is x y p ∙ equal_is y z t));
+    congr = λ x y z p. both_ways (is_equal c x z) (is_equal c y z)
+        (λ t. is_equal_of y z (sym (equal_is x y p) ∙ equal_is x z t))
+        (λ t. is_equal_of x z (equal_is x y p ∙ equal_is y z t));
   }

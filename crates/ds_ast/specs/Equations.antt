@@ -9,7 +9,8 @@ use Rattle.ds_ast.specs.declared.init.Init as init
 use Rattle.ds_ast.specs.declared.init.Init.TheBlock.{hidden-the_row-Init-0}
 use Rattle.ds_ast.specs.declared.module.StructDef.{StructDef}
 use denote.Hole.Carrier.{hidden}
-use Rattle.ds_ast.specs.Bounds.{counts, innermost, element_type, field_types, brackets, most_brackets, Fits, FitAll, FitInOrder}
+use Rattle.ds_ast.specs.Bounds.{counts, innermost, element_type, field_types, brackets, most_brackets, Fits, FitAll}
+use Rattle.ds_ast.specs.Bounds.{FitInOrder}
 
 -- an array's counts are its own and those inside
 pub counts-array : (n : ℕ) (of : Ty) → counts (ty.Array n of) ≡ n ∷ counts of
@@ -59,19 +60,23 @@ module _ (structs : List StructDef) where
   unfolding hidden-the_row-Init-0 hidden
   all_fit of [] = (λ f. tt, λ f. tt)
   all_fit None (part ∷ parts) = (λ f. f, λ f. f)
-  all_fit (Some of) (part ∷ parts) = (λ f. (f.0, (all_fit (Some of) parts).0 f.1), λ f. (f.0, (all_fit (Some of) parts).1 f.1))
+  all_fit (Some of) (part ∷ parts) =
+      (λ f. (f.0, (all_fit (Some of) parts).0 f.1), λ f. (f.0, (all_fit (Some of) parts).1 f.1))
 
-  fit_types : (types : Option (List Ty)) (parts : List Init) → FitInOrder structs types (hidden-the_row-Init-0 parts) ↔ FitTypes types parts
+  fit_types : (types : Option (List Ty)) (parts : List Init) → FitInOrder structs types (hidden-the_row-Init-0 parts)
+      ↔ FitTypes types parts
   unfolding hidden-the_row-Init-0 hidden
   fit_types None parts = (λ f. f, λ f. f)
   fit_types (Some types) [] = (λ f. tt, λ f. tt)
   fit_types (Some []) (part ∷ parts) = (λ f. f, λ f. f)
-  fit_types (Some (ty ∷ types)) (part ∷ parts) = (λ f. (f.0, (fit_types (Some types) parts).0 f.1), λ f. (f.0, (fit_types (Some types) parts).1 f.1))
+  fit_types (Some (ty ∷ types)) (part ∷ parts) =
+      (λ f. (f.0, (fit_types (Some types) parts).0 f.1), λ f. (f.0, (fit_types (Some types) parts).1 f.1))
 
   -- square brackets fit where each element fits the type of the array's elements
   pub fits-array : (ty : Ty) (parts : List Init) → Fits structs ty (init.Array parts) ↔ AllFit (element_type ty) parts
   fits-array ty parts = all_fit (element_type ty) parts
 
   -- curly brackets fit where each element fits the type of the struct's field
-  pub fits-fields : (ty : Ty) (parts : List Init) → Fits structs ty (init.Fields parts) ↔ FitTypes (field_types structs ty) parts
+  pub fits-fields : (ty : Ty) (parts : List Init) → Fits structs ty (init.Fields parts)
+      ↔ FitTypes (field_types structs ty) parts
   fits-fields ty parts = fit_types (field_types structs ty) parts

@@ -1,7 +1,9 @@
 -- Six groups of instructions, by which they are compared and copied.
 use Rattle.std.specs.Prelude.{Bool, true, false}
 use Rattle.ds_ast.specs.declared.instr.Op.{Op}
-use Rattle.ds_ast.specs.declared.instr.Op.TheVariants.{Bin, Icmp, Select, Cast, Alloca, Load, Store, Gep, Call, Phi, Rmw, Cmpxchg, Extract, Fence, Ret, Br, CondBr, Switch, Unreachable}
+use Rattle.ds_ast.specs.declared.instr.Op.TheVariants.{Bin, Icmp, Select, Cast, Alloca, Load, Store, Gep, Call, Phi}
+use Rattle.ds_ast.specs.declared.instr.Op.TheVariants.{Rmw, Cmpxchg, Extract, Fence, Ret, Br, CondBr, Switch}
+use Rattle.ds_ast.specs.declared.instr.Op.TheVariants.{Unreachable}
 
 -- the instruction computes a number from numbers
 abbrev pub is_arithmetic : Op → Bool

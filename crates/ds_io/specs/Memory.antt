@@ -2,7 +2,8 @@
 use Rattle.std.specs.Prelude.{ℕ, ◌-◌, ◌≤◌, ◌⊎◌, min, List, ◌++◌, length, drop, Contains}
 use Rattle.ds_io.specs.Counts.{one_more}
 
--- the bytes still to come, the most that one read gives, the numbers of the reads that fail (from 0), how many reads there were, and how many failed
+-- the bytes still to come, the most that one read gives, the numbers of the reads that fail (from 0), how many reads
+-- there were, and how many failed
 pub record SourceState : Type 0 where
   pub left : List ℕ
   pub most : ℕ
@@ -26,7 +27,8 @@ after_read s n = record s { left = drop n s.left; calls = one_more s.calls }
 abbrev pub after_failed_read : SourceState → SourceState
 after_failed_read s = record s { calls = one_more s.calls; faults = one_more s.faults }
 
--- the bytes that were taken, for how many there is room, the most that one write takes, the numbers of the writes that fail (from 0), how many writes there were, and how many failed
+-- the bytes that were taken, for how many there is room, the most that one write takes, the numbers of the writes
+-- that fail (from 0), how many writes there were, and how many failed
 pub record SinkState : Type 0 where
   pub taken : List ℕ
   pub room : ℕ

@@ -1,4 +1,5 @@
--- What a sink of bytes holds. `Some bytes` are the bytes that it took, and `None` stands for a sink that doesn't tell them.
+-- What a sink of bytes holds. `Some bytes` are the bytes that it took, and `None` stands for a sink that doesn't tell
+-- them.
 use Rattle.std.specs.Prelude.{◌≡◌, ℕ, ◌≤◌, Option, List, ◌++◌, length, take}
 use Rattle.std.specs.Option.{option_map}
 

@@ -1,4 +1,5 @@
--- What a source of bytes gives. `Some bytes` are the bytes still to come, and `None` stands for a source that doesn't tell them.
+-- What a source of bytes gives. `Some bytes` are the bytes still to come, and `None` stands for a source that doesn't
+-- tell them.
 use Rattle.std.specs.Prelude.{◌≡◌, ℕ, ◌+◌, ◌<◌, ◌≤◌, Option, Some, None, List, [], ◌++◌, length, drop}
 use Rattle.std.specs.Option.{option_map}
 

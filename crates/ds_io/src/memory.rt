@@ -1,6 +1,7 @@
 //! A source and a sink over memory. They give and take a few bytes a call, and fail at the calls that
 //! they are told, so that a caller's behaviour in the face of failures can be tried.
-ghost use Rattle.std.specs.Prelude.{Some, ◌≡◌, ◌<◌, ◌≤◌, ◌↔◌, [], min, IsTrue, IsErr, IfOk, OnErr, Contains, length, take};
+ghost use Rattle.std.specs.Prelude.{Some, ◌≡◌, ◌<◌, ◌≤◌, ◌↔◌, [], min, IsTrue, IsErr, IfOk, OnErr, Contains, length};
+ghost use Rattle.std.specs.Prelude.{take};
 ghost use Rattle.ds_io.specs.Counts.{Rose, one_more};
 ghost use Rattle.ds_io.specs.Source.{Gives, IsAtEnd};
 ghost use Rattle.ds_io.specs.Sink.{Takes};

@@ -1,5 +1,6 @@
 //! A whole text at once: all that a source gives, and all that a sink is to take.
-ghost use Rattle.std.specs.Prelude.{◌≡◌, ◌≢◌, ◌+◌, ◌<◌, ◌≤◌, ◌⊎◌, ◌↔◌, ℕ, [], IsTrue, length, vec_len, IfOk, IfSome, IsErrOf, OnOk, OnErr};
+ghost use Rattle.std.specs.Prelude.{◌≡◌, ◌≢◌, ◌+◌, ◌<◌, ◌≤◌, ◌⊎◌, ◌↔◌, ℕ, [], IsTrue, length, vec_len, IfOk, IfSome};
+ghost use Rattle.std.specs.Prelude.{IsErrOf, OnOk, OnErr};
 ghost use Rattle.ds_io.specs.declared.whole.ReadAllFault.TheVariants.{Read, Memory};
 ghost use Rattle.ds_io.specs.Counts.{Rose};
 ghost use Rattle.ds_io.specs.Source.{GivesAll, HadMore, TookAtMost};

@@ -1,11 +1,14 @@
 -- A text that is written token by token, each apart from the next, has these tokens.
-use Rattle.std.proofs.Common.{◌≡◌, ℕ, ◌+◌, ◌-◌, ◌<◌, ◌≤◌, Bool, true, false, ◌&&◌, ◌⊎◌, List, [], ◌∷◌, ◌++◌, length, take, drop, suc, zero, refl, sym, ◌∙◌, ap, subst, inl, inr, arith, length-append, length-drop, append_assoc}
+use Rattle.std.proofs.Common.{◌≡◌, ℕ, ◌+◌, ◌-◌, ◌<◌, ◌≤◌, Bool, true, false, ◌&&◌, ◌⊎◌, List, [], ◌∷◌, ◌++◌, length}
+use Rattle.std.proofs.Common.{take, drop, suc, zero, refl, sym, ◌∙◌, ap, subst, inl, inr, arith, length-append}
+use Rattle.std.proofs.Common.{length-drop, append_assoc}
 use Rattle.std.specs.Prelude.{MatchBool}
 use Rattle.std.specs.List.{list_all}
 use Rattle.std.proofs.lemmas.List.{drop-drop}
 use Rattle.ds_lex.specs.declared.bytes.ByteClass.TheVariants.{Mark}
 use Rattle.ds_lex.specs.declared.token.TokenKind.{TokenKind}
-use Rattle.ds_lex.specs.declared.token.TokenKind.TheVariants.{Word, Label, Local, Global, Attr, Meta, Number, Text, CText, Punct, End}
+use Rattle.ds_lex.specs.declared.token.TokenKind.TheVariants.{Word, Label, Local, Global, Attr, Meta, Number, Text}
+use Rattle.ds_lex.specs.declared.token.TokenKind.TheVariants.{CText, Punct, End}
 use Rattle.ds_lex.specs.Bytes.{is_blank, class_of}
 use Rattle.ds_lex.specs.Lexed.{IsGapFrom, IsSpelling, IsWhole, IsInRange, IsToken, IsGap, IsTokenAt, LexedFrom, is_end}
 use Rattle.ds_lex.specs.Written.{Piece, Gap, Written, written, tokens_of, EndsBefore, AreApart}
@@ -70,15 +73,18 @@ mark_longer kind other b bs j i k p l e f =
     omega (arith, p, empty_take bs i l (opened other b (take i bs) Mark m.0 f).1)
 
 -- no longer spelling stands where one stands that ends there
-longer : (kind other : TokenKind) (b : ℕ) (bs : List ℕ) (j i : ℕ) → (kind ≡ Punct) ⊎ Stops (drop j bs) → j < i → i ≤ length bs
+longer : (kind other : TokenKind) (b : ℕ) (bs : List ℕ) (j i : ℕ) → (kind ≡ Punct) ⊎ Stops (drop j bs) → j < i
+    → i ≤ length bs
     → IsSpelling kind (b ∷ take j bs) → IsSpelling other (b ∷ take i bs) → ⊥
 longer kind other b bs j i h p l e f =
     elim h [
       | inl k ↦ mark_longer kind other b bs j i k p l e f
-      | inr s ↦ no_longer (class_of b) b bs kind other j i p l s (opened kind b (take j bs) (class_of b) refl e) (opened other b (take i bs) (class_of b) refl f)
+      | inr s ↦ no_longer (class_of b) b bs kind other j i p l s (opened kind b (take j bs) (class_of b) refl e)
+          (opened other b (take i bs) (class_of b) refl f)
     ]
 
-longest_by : (kind other : TokenKind) (b : ℕ) (bs : List ℕ) (j m : ℕ) → (kind ≡ Punct) ⊎ Stops (drop j bs) → suc j < m → m ≤ suc (length bs)
+longest_by : (kind other : TokenKind) (b : ℕ) (bs : List ℕ) (j m : ℕ) → (kind ≡ Punct) ⊎ Stops (drop j bs) → suc j < m
+    → m ≤ suc (length bs)
     → IsSpelling kind (b ∷ take j bs) → IsSpelling other (take m (b ∷ bs)) → ⊥
 longest_by kind other b bs j zero h p l e f = omega (arith, p)
 longest_by kind other b bs j (suc i) h p l e f = longer kind other b bs j i h (omega (arith, p)) (omega (arith, l)) e f
@@ -87,7 +93,8 @@ is_no_end : (kind : TokenKind) → kind ≡ End → is_end kind ≡ false → �
 is_no_end kind e h = let f = ap is_end e in cc
 
 -- what is written is a token
-pub written_token : (kind : TokenKind) (bytes rest : List ℕ) → IsSpelling kind bytes → IsInRange kind bytes → EndsBefore kind rest → IsToken (bytes ++ rest) kind (length bytes)
+pub written_token : (kind : TokenKind) (bytes rest : List ℕ) → IsSpelling kind bytes → IsInRange kind bytes
+    → EndsBefore kind rest → IsToken (bytes ++ rest) kind (length bytes)
 written_token kind [] rest s r h = absurd (is_no_end kind (end_only kind s) (not_end kind rest h))
 written_token kind (b ∷ bs) rest s r h =
     let P : List ℕ → Type 0 = λ xs. IsSpelling kind xs in
@@ -110,7 +117,8 @@ written_token kind (b ∷ bs) rest s r h =
 -- blanks are a gap
 blanks : (gap rest : List ℕ) → list_all is_blank gap ≡ true → IsGapFrom false gap rest
 blanks [] rest h = tt
-blanks (b ∷ bs) rest h = let p = and_parts (is_blank b) (list_all is_blank bs) h in inl (blank_class b p.0, blanks bs rest p.1)
+blanks (b ∷ bs) rest h =
+    let p = and_parts (is_blank b) (list_all is_blank bs) h in inl (blank_class b p.0, blanks bs rest p.1)
 
 -- where blanks stand behind `at` bytes, and more behind them
 pub record Between (text : List ℕ) (at : ℕ) (gap more : List ℕ) : Type 0 where
@@ -129,11 +137,14 @@ gap_of text at gap more h =
       gap = subst P (sym same) (blanks gap (drop (at + n) text) h.blank);
     }
 
-behind_gap : (text : List ℕ) (at : ℕ) (gap more : List ℕ) → Between text at gap more → drop (at + length gap) text ≡ more
-behind_gap text at gap more h = sym (drop-drop (length gap) at text) ∙ ap (drop (length gap)) h.behind ∙ drop_inside gap more
+behind_gap : (text : List ℕ) (at : ℕ) (gap more : List ℕ) → Between text at gap more
+    → drop (at + length gap) text ≡ more
+behind_gap text at gap more h =
+    sym (drop-drop (length gap) at text) ∙ ap (drop (length gap)) h.behind ∙ drop_inside gap more
 
 -- the token behind the blanks
-token_of : (text : List ℕ) (at : ℕ) (gap more : List ℕ) (kind : TokenKind) (n : ℕ) → Between text at gap more → IsToken more kind n
+token_of : (text : List ℕ) (at : ℕ) (gap more : List ℕ) (kind : TokenKind) (n : ℕ) → Between text at gap more
+    → IsToken more kind n
     → IsTokenAt text at (record { kind = kind; start = at + length gap; end = at + length gap + n })
 token_of text at gap more kind n h t =
     let s = at + length gap in
@@ -146,34 +157,56 @@ token_of text at gap more kind n h t =
     }
 
 end_token : IsToken [] End 0
-end_token = record { longest = record { within = omega arith; spelled = refl; longest = λ other m p l s. omega (arith, p, l) }; whole = refl; in_range = tt }
+end_token = record {
+  longest = record {
+    within = omega arith;
+    spelled = refl;
+    longest = λ other m p l s. omega
+        (arith, p, l);
+  };
+  whole = refl;
+  in_range = tt;
+}
 
-end_at : (text : List ℕ) (at : ℕ) (gap : List ℕ) → Between text at gap [] → IsTokenAt text at (record { kind = End; start = at + length gap; end = at + length gap })
+end_at : (text : List ℕ) (at : ℕ) (gap : List ℕ) → Between text at gap []
+    → IsTokenAt text at (record { kind = End; start = at + length gap; end = at + length gap })
 end_at text at gap h =
     let s = at + length gap in
     let e : s + 0 ≡ s = omega arith in
     let P : ℕ → Type 0 = λ m. IsTokenAt text at (record { kind = End; start = s; end = m }) in
     subst P e (token_of text at gap [] End 0 h end_token)
 
-more_blanks : (text : List ℕ) (at : ℕ) (gap bytes more : List ℕ) → Between text at gap (bytes ++ more) → list_all is_blank bytes ≡ true → Between text at (gap ++ bytes) more
+more_blanks : (text : List ℕ) (at : ℕ) (gap bytes more : List ℕ) → Between text at gap (bytes ++ more)
+    → list_all is_blank bytes ≡ true → Between text at (gap ++ bytes) more
 more_blanks text at gap bytes more h b = record {
   within = h.within;
   behind = h.behind ∙ sym (append_assoc gap bytes more);
   blank = both_blank gap bytes h.blank b;
 }
   where
-    both_blank : (xs ys : List ℕ) → list_all is_blank xs ≡ true → list_all is_blank ys ≡ true → list_all is_blank (xs ++ ys) ≡ true
+    both_blank : (xs ys : List ℕ) → list_all is_blank xs ≡ true → list_all is_blank ys ≡ true
+        → list_all is_blank (xs ++ ys) ≡ true
     both_blank [] ys p q = q
     both_blank (x ∷ xs) ys p q =
         let r = and_parts (is_blank x) (list_all is_blank xs) p in
         ap (λ t. t && list_all is_blank (xs ++ ys)) r.0 ∙ both_blank xs ys r.1 q
 
-behind_token : (text : List ℕ) (at : ℕ) (gap bytes more : List ℕ) → Between text at gap (bytes ++ more) → Between text (at + length gap + length bytes) [] more
+behind_token : (text : List ℕ) (at : ℕ) (gap bytes more : List ℕ) → Between text at gap (bytes ++ more)
+    → Between text (at + length gap + length bytes) [] more
 behind_token text at gap bytes more h =
     let s = at + length gap in
     record {
-      within = omega (arith, h.within, length-drop at text, ap length h.behind, length-append gap (bytes ++ more), length-append bytes more);
-      behind = sym (drop-drop (length bytes) s text) ∙ ap (drop (length bytes)) (behind_gap text at gap (bytes ++ more) h) ∙ drop_inside bytes more;
+      within = omega (
+        arith,
+        h.within,
+        length-drop at text,
+        ap length h.behind,
+        length-append gap
+            (bytes ++ more),
+        length-append bytes more,
+      );
+      behind = sym (drop-drop (length bytes) s text)
+          ∙ ap (drop (length bytes)) (behind_gap text at gap (bytes ++ more) h) ∙ drop_inside bytes more;
       blank = refl;
     }
 
@@ -181,7 +214,8 @@ goes_on_by : (b : Bool) (E L : Type 0) → b ≡ false → L → MatchBool b E L
 goes_on_by true E L h l = absurd cc
 goes_on_by false E L h l = l
 
-pub lexed_behind : (text : List ℕ) (at : ℕ) (gap : List ℕ) (ps : List Piece) → Between text at gap (written ps) → AreApart ps → LexedFrom text at (tokens_of (at + length gap) ps)
+pub lexed_behind : (text : List ℕ) (at : ℕ) (gap : List ℕ) (ps : List Piece) → Between text at gap (written ps)
+    → AreApart ps → LexedFrom text at (tokens_of (at + length gap) ps)
 lexed_behind text at gap [] h a = (end_at text at gap h, refl)
 lexed_behind text at gap (Gap bytes ∷ ps) h a =
     let e : at + length (gap ++ bytes) ≡ at + length gap + length bytes = omega (arith, length-append gap bytes) in
@@ -192,6 +226,8 @@ lexed_behind text at gap (Written kind bytes ∷ ps) h a =
     let e : n + 0 ≡ n = omega arith in
     let P : ℕ → Type 0 = λ m. LexedFrom text n (tokens_of m ps) in
     let more = subst P e (lexed_behind text n [] ps (behind_token text at gap bytes (written ps) h) a.3) in (
-      token_of text at gap (bytes ++ written ps) kind (length bytes) h (written_token kind bytes (written ps) a.0 a.1 a.2),
-      goes_on_by (is_end kind) (tokens_of n ps ≡ []) (LexedFrom text n (tokens_of n ps)) (not_end kind (written ps) a.2) more,
+      token_of text at gap (bytes ++ written ps) kind (length bytes) h
+          (written_token kind bytes (written ps) a.0 a.1 a.2),
+      goes_on_by (is_end kind) (tokens_of n ps ≡ []) (LexedFrom text n (tokens_of n ps))
+          (not_end kind (written ps) a.2) more,
     )

@@ -1,5 +1,6 @@
 -- One more digit behind a number.
-use Rattle.std.proofs.Common.{◌≡◌, ℕ, ◌+◌, ◌-◌, ◌*◌, ◌^◌, ◌<◌, ◌≤◌, Bool, true, false, ◌&&◌, cond, ltb, List, [], ◌∷◌, Option, Some, None, refl, ◌∙◌, ap, arith}
+use Rattle.std.proofs.Common.{◌≡◌, ℕ, ◌+◌, ◌-◌, ◌*◌, ◌^◌, ◌<◌, ◌≤◌, Bool, true, false, ◌&&◌, cond, ltb, List, [], ◌∷◌}
+use Rattle.std.proofs.Common.{Option, Some, None, refl, ◌∙◌, ap, arith}
 use Rattle.std.proofs.lemmas.Bool.Decides.{nat_tests}
 use Rattle.std.specs.List.{list_all}
 use Rattle.ds_lex.specs.Bytes.{is_digit}
@@ -24,9 +25,11 @@ no_more true v h = grind (arith, nat_tests)
 
 refused : (d : Bool) (m : ℕ) (bs : List ℕ) → judged d m [] ≡ None → judged d m bs ≡ None
 refused false m bs h = refl
-refused true m bs h = let g = grows m bs in let l : 2 ^ 64 ≤ m = grind (arith, nat_tests) in no_more (list_all is_digit bs) (decimal m bs) (omega arith)
+refused true m bs h = let g = grows m bs in let l : 2 ^ 64 ≤ m = grind (arith, nat_tests) in
+    no_more (list_all is_digit bs) (decimal m bs) (omega arith)
 
-pub extended_some : (n b : ℕ) (bs : List ℕ) (k : ℕ) → extended n (b ∷ []) ≡ Some k → extended n (b ∷ bs) ≡ extended k bs
+pub extended_some : (n b : ℕ) (bs : List ℕ) (k : ℕ) → extended n (b ∷ []) ≡ Some k
+    → extended n (b ∷ bs) ≡ extended k bs
 unfolding extended
 extended_some n b bs k h = taken (is_digit b) (10 * n + (b - 48)) bs k h
 

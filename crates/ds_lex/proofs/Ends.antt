@@ -1,5 +1,6 @@
 -- What no token goes on with.
-use Rattle.std.proofs.Common.{◌≡◌, ℕ, ◌≤◌, Bool, true, false, ◌||◌, ◌⊎◌, eqb, List, [], ◌∷◌, take, drop, suc, zero, refl, sym, ◌∙◌, ap, inl, inr, arith}
+use Rattle.std.proofs.Common.{◌≡◌, ℕ, ◌≤◌, Bool, true, false, ◌||◌, ◌⊎◌, eqb, List, [], ◌∷◌, take, drop, suc, zero}
+use Rattle.std.proofs.Common.{refl, sym, ◌∙◌, ap, inl, inr, arith}
 use Rattle.std.proofs.lemmas.Bool.Decides.{nat_tests}
 use Rattle.std.specs.Prelude.{IsTrue}
 use Rattle.ds_lex.specs.declared.bytes.ByteClass.{ByteClass}
@@ -37,16 +38,19 @@ pub record Stops (rest : List ℕ) : Type 0 where
   pub colon : starts_colon rest ≡ false
   pub quote : starts_quote rest ≡ false
 
-no_digit : (b : ℕ) (class : ByteClass) → class_of b ≡ class → (class ≡ Digit → ⊥) → (t : Bool) → is_digit b ≡ t → t ≡ false
+no_digit : (b : ℕ) (class : ByteClass) → class_of b ≡ class → (class ≡ Digit → ⊥) → (t : Bool) → is_digit b ≡ t
+    → t ≡ false
 no_digit b class c n true e = absurd (n (sym c ∙ digit_class b e))
 no_digit b class c n false e = refl
 
-no_colon : (b : ℕ) (class : ByteClass) → class_of b ≡ class → (class ≡ Other → ⊥) → (t : Bool) → eqb b 58 ≡ t → t ≡ false
+no_colon : (b : ℕ) (class : ByteClass) → class_of b ≡ class → (class ≡ Other → ⊥) → (t : Bool) → eqb b 58 ≡ t
+    → t ≡ false
 no_colon b class c n true e = absurd (n (sym c ∙ colon_class b e))
 no_colon b class c n false e = refl
 
 -- a byte of these classes ends what stands before it
-stops_at : (b : ℕ) (bs : List ℕ) (class : ByteClass) → class_of b ≡ class → stands_in_name class ≡ false → is_quote class ≡ false
+stops_at : (b : ℕ) (bs : List ℕ) (class : ByteClass) → class_of b ≡ class → stands_in_name class ≡ false
+    → is_quote class ≡ false
     → (class ≡ Digit → ⊥) → (class ≡ Other → ⊥) → Stops (b ∷ bs)
 stops_at b bs class c n q d o = record {
   name = ap stands_in_name c ∙ n;
@@ -84,7 +88,8 @@ stops_number [] s = refl
 stops_number (b ∷ bs) s = s.name
 
 -- a run ends where the bytes stop
-run_next : (set : RunOf) (b : ℕ) (bs : List ℕ) (t : Bool) → belongs set b ≡ t → run_len set (b ∷ bs) ≤ suc (run_len set bs)
+run_next : (set : RunOf) (b : ℕ) (bs : List ℕ) (t : Bool) → belongs set b ≡ t
+    → run_len set (b ∷ bs) ≤ suc (run_len set bs)
 run_next set b bs true h = omega (arith, run_more set b bs h)
 run_next set b bs false h = omega (arith, run_none set b bs h)
 

@@ -2,7 +2,8 @@
 use Rattle.std.proofs.Common.{◌≡◌, ℕ, Bool, true, false, ◌⊎◌, List, [], ◌∷◌, refl, ◌∙◌, ap, inl, inr}
 use Rattle.std.specs.Prelude.{IsTrue}
 use Rattle.ds_lex.specs.declared.bytes.ByteClass.{ByteClass}
-use Rattle.ds_lex.specs.declared.bytes.ByteClass.TheVariants.{Blank, Semicolon, Percent, At, Hash, Bang, Quote, Minus, Digit, Letter, Mark, Other}
+use Rattle.ds_lex.specs.declared.bytes.ByteClass.TheVariants.{Blank, Semicolon, Percent, At, Hash, Bang, Quote, Minus}
+use Rattle.ds_lex.specs.declared.bytes.ByteClass.TheVariants.{Digit, Letter, Mark, Other}
 use Rattle.ds_lex.specs.Bytes.{class_of, is_quote}
 use Rattle.ds_lex.specs.Fault.{Begins}
 
@@ -87,7 +88,8 @@ pub begins_stray : (bytes : List ℕ) → First is_stray bytes → Begins Minus 
 begins_stray [] f = absurd f
 begins_stray (b ∷ bs) f = stray_is (class_of b) f
 
-pub begins_sigil : (bytes : List ℕ) → First is_sigil bytes → Begins Percent bytes ⊎ (Begins At bytes ⊎ Begins Hash bytes)
+pub begins_sigil : (bytes : List ℕ) → First is_sigil bytes → Begins Percent bytes
+    ⊎ (Begins At bytes ⊎ Begins Hash bytes)
 begins_sigil [] f = absurd f
 begins_sigil (b ∷ bs) f = sigil_is (class_of b) f
 
@@ -95,6 +97,7 @@ pub begins_quote : (bytes : List ℕ) → First is_quote bytes → Begins Quote 
 begins_quote [] f = absurd f
 begins_quote (b ∷ bs) f = quote_is (class_of b) f
 
-pub first_of : (bytes : List ℕ) (class : ByteClass) (property : ByteClass → Bool) → property class ≡ true → Begins class bytes → First property bytes
+pub first_of : (bytes : List ℕ) (class : ByteClass) (property : ByteClass → Bool) → property class ≡ true
+    → Begins class bytes → First property bytes
 first_of [] class property h b = absurd b
 first_of (b ∷ bs) class property h e = ap property e ∙ h

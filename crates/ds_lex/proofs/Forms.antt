@@ -1,12 +1,15 @@
 -- What may be spelled behind the first byte, by its class.
-use Rattle.std.proofs.Common.{◌≡◌, ℕ, true, ◌⊎◌, List, [], ◌∷◌, ◌++◌, refl, sym, ◌∙◌, ap, subst, inl, inr, arith, append_assoc}
+use Rattle.std.proofs.Common.{◌≡◌, ℕ, true, ◌⊎◌, List, [], ◌∷◌, ◌++◌, refl, sym, ◌∙◌, ap, subst, inl, inr, arith}
+use Rattle.std.proofs.Common.{append_assoc}
 use Rattle.std.proofs.lemmas.Bool.Decides.{nat_tests}
 use Rattle.std.specs.List.{list_all}
 use Rattle.ds_lex.specs.declared.bytes.ByteClass.{ByteClass}
-use Rattle.ds_lex.specs.declared.bytes.ByteClass.TheVariants.{Blank, Semicolon, Percent, At, Hash, Bang, Quote, Minus, Digit, Letter, Mark, Other}
+use Rattle.ds_lex.specs.declared.bytes.ByteClass.TheVariants.{Blank, Semicolon, Percent, At, Hash, Bang, Quote, Minus}
+use Rattle.ds_lex.specs.declared.bytes.ByteClass.TheVariants.{Digit, Letter, Mark, Other}
 use Rattle.ds_lex.specs.declared.bytes.RunOf.TheVariants.{NameBytes, Digits, TextBytes}
 use Rattle.ds_lex.specs.declared.token.TokenKind.{TokenKind}
-use Rattle.ds_lex.specs.declared.token.TokenKind.TheVariants.{Word, Label, Local, Global, Attr, Meta, Number, Text, CText, Punct, End}
+use Rattle.ds_lex.specs.declared.token.TokenKind.TheVariants.{Word, Label, Local, Global, Attr, Meta, Number, Text}
+use Rattle.ds_lex.specs.declared.token.TokenKind.TheVariants.{CText, Punct, End}
 use Rattle.ds_lex.specs.Bytes.{is_digit, class_of, belongs}
 use Rattle.ds_lex.specs.Lexed.{IsWord, IsDigits, IsClosed, IsText, IsAnyName, IsMetaName, IsSpelling}
 use Rattle.ds_lex.proofs.Runs.{and_parts}
@@ -26,7 +29,8 @@ TextColon bs = (inside : List ℕ) × (bs ≡ inside ++ 34 ∷ 58 ∷ []) × (li
 -- the kind and the bytes bs behind a byte b of the class
 abbrev pub Forms : ByteClass → ℕ → List ℕ → TokenKind → Type 0
 Forms Letter b bs kind =
-    ((kind ≡ Word) × (list_all (belongs NameBytes) bs ≡ true)) ⊎ (((kind ≡ Label) × NameColon bs) ⊎ ((kind ≡ CText) × (b ≡ 99) × IsText bs))
+    ((kind ≡ Word) × (list_all (belongs NameBytes) bs ≡ true))
+    ⊎ (((kind ≡ Label) × NameColon bs) ⊎ ((kind ≡ CText) × (b ≡ 99) × IsText bs))
 Forms Digit b bs kind = ((kind ≡ Number) × (list_all (belongs Digits) bs ≡ true)) ⊎ ((kind ≡ Label) × DigitsColon bs)
 Forms Quote b bs kind = ((kind ≡ Text) × IsClosed bs) ⊎ ((kind ≡ Label) × TextColon bs)
 Forms Percent b bs kind = (kind ≡ Local) × IsAnyName bs
@@ -39,7 +43,8 @@ Forms Blank b bs kind = ⊥
 Forms Semicolon b bs kind = ⊥
 Forms Other b bs kind = ⊥
 
-of_class : (known class : ByteClass) (b : ℕ) (bs : List ℕ) (kind : TokenKind) → class_of b ≡ known → class_of b ≡ class → Forms known b bs kind → Forms class b bs kind
+of_class : (known class : ByteClass) (b : ℕ) (bs : List ℕ) (kind : TokenKind) → class_of b ≡ known
+    → class_of b ≡ class → Forms known b bs kind → Forms class b bs kind
 of_class known class b bs kind e c f = let P : ByteClass → Type 0 = λ k. Forms k b bs kind in subst P (sym e ∙ c) f
 
 -- a digit is of the class of digits
@@ -72,7 +77,8 @@ labelled b bs class c (n ∷ ns) e w =
       ]
     ]
 
-pub opened : (kind : TokenKind) (b : ℕ) (bs : List ℕ) (class : ByteClass) → class_of b ≡ class → IsSpelling kind (b ∷ bs) → Forms class b bs kind
+pub opened : (kind : TokenKind) (b : ℕ) (bs : List ℕ) (class : ByteClass) → class_of b ≡ class
+    → IsSpelling kind (b ∷ bs) → Forms class b bs kind
 opened Word b bs class c s = of_class Letter class b bs Word s.0 c (inl (refl, s.1))
 opened Label b bs class c s = labelled b bs class c s.0 s.1 s.2
 opened Local b bs class c s = of_class Percent class b bs Local s.0 c (refl, s.1)
@@ -87,6 +93,7 @@ opened Number b bs class c s =
       | inr x ↦ of_class Minus class b bs Number x.0 c (refl, x.1)
     ]
 opened Text b bs class c s = of_class Quote class b bs Text s.0 c (inl (refl, s.1))
-opened CText b bs class c s = of_class Letter class b bs CText (ap class_of s.0 ∙ c_class) c (inr (inr (refl, s.0, s.1)))
+opened CText b bs class c s =
+    of_class Letter class b bs CText (ap class_of s.0 ∙ c_class) c (inr (inr (refl, s.0, s.1)))
 opened Punct b bs class c s = of_class Mark class b bs Punct s.0 c (refl, s.1)
 opened End b bs class c s = absurd cc

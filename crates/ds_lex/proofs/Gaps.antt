@@ -1,7 +1,9 @@
 -- Blanks and comments at the front.
-use Rattle.std.proofs.Common.{◌≡◌, ℕ, ◌≤◌, Bool, true, false, not, ◌==◌, Some, None, List, [], ◌∷◌, ◌++◌, length, take, drop, suc, refl, ◌∙◌, ap, inl, inr, arith}
+use Rattle.std.proofs.Common.{◌≡◌, ℕ, ◌≤◌, Bool, true, false, not, ◌==◌, Some, None, List, [], ◌∷◌, ◌++◌, length}
+use Rattle.std.proofs.Common.{take, drop, suc, refl, ◌∙◌, ap, inl, inr, arith}
 use Rattle.ds_lex.specs.declared.bytes.ByteClass.{ByteClass}
-use Rattle.ds_lex.specs.declared.bytes.ByteClass.TheVariants.{Blank, Semicolon, Percent, At, Hash, Bang, Quote, Minus, Digit, Letter, Mark, Other}
+use Rattle.ds_lex.specs.declared.bytes.ByteClass.TheVariants.{Blank, Semicolon, Percent, At, Hash, Bang, Quote, Minus}
+use Rattle.ds_lex.specs.declared.bytes.ByteClass.TheVariants.{Digit, Letter, Mark, Other}
 use Rattle.ds_lex.specs.Bytes.{class_of}
 use Rattle.ds_lex.specs.Lexed.{IsGapFrom}
 use Rattle.ds_lex.specs.Scan.{gap_behind, gap_len, opens_comment, comment_behind}
@@ -13,11 +15,13 @@ pub record Found (inside : Bool) (bytes : List ℕ) (n : ℕ) : Type 0 where
   pub within : n ≤ length bytes
 
 -- a byte that stands in no gap ends it
-none_here : (b : ℕ) (bs : List ℕ) → gap_behind (class_of b) (gap_len false bs) (gap_len true bs) ≡ 0 → Found false (b ∷ bs) 0
+none_here : (b : ℕ) (bs : List ℕ) → gap_behind (class_of b) (gap_len false bs) (gap_len true bs) ≡ 0
+    → Found false (b ∷ bs) 0
 unfolding gap_len
 none_here b bs h = record { gap = tt; rest = h; within = omega arith }
 
-by_class : (b : ℕ) (bs : List ℕ) (k : ByteClass) → class_of b ≡ k → Found false bs (gap_len false bs) → Found true bs (gap_len true bs) → Found false (b ∷ bs) (gap_behind k (gap_len false bs) (gap_len true bs))
+by_class : (b : ℕ) (bs : List ℕ) (k : ByteClass) → class_of b ≡ k → Found false bs (gap_len false bs)
+    → Found true bs (gap_len true bs) → Found false (b ∷ bs) (gap_behind k (gap_len false bs) (gap_len true bs))
 unfolding gap_len
 by_class b bs Blank e f g = record { gap = inl (e, f.gap); rest = f.rest; within = omega (arith, f.within) }
 by_class b bs Semicolon e f g = record { gap = inr (e, g.gap); rest = g.rest; within = omega (arith, g.within) }
@@ -43,18 +47,22 @@ gap_found true (b ∷ bs) = in_comment b bs (gap_len (not (b == 10)) bs) (gap_fo
 gap_found false (b ∷ bs) = by_class b bs (class_of b) refl (gap_found false bs) (gap_found true bs)
 
 -- a gap ends where a byte stands in none
-pub gap_only : (inside : Bool) (gap rest : List ℕ) → IsGapFrom inside gap rest → gap_len false rest ≡ 0 → gap_len inside (gap ++ rest) ≡ length gap
+pub gap_only : (inside : Bool) (gap rest : List ℕ) → IsGapFrom inside gap rest → gap_len false rest ≡ 0
+    → gap_len inside (gap ++ rest) ≡ length gap
 unfolding gap_len
 gap_only true [] rest g z = ap (gap_len true) g
 gap_only false [] rest g z = z
 gap_only true (b ∷ gap) rest g z = ap suc (gap_only (not (b == 10)) gap rest g z)
 gap_only false (b ∷ gap) rest g z =
     elim g [
-      | inl p ↦ ap (λ k. gap_behind k (gap_len false (gap ++ rest)) (gap_len true (gap ++ rest))) p.0 ∙ ap suc (gap_only false gap rest p.1 z)
-      | inr p ↦ ap (λ k. gap_behind k (gap_len false (gap ++ rest)) (gap_len true (gap ++ rest))) p.0 ∙ ap suc (gap_only true gap rest p.1 z)
+      | inl p ↦ ap (λ k. gap_behind k (gap_len false (gap ++ rest)) (gap_len true (gap ++ rest))) p.0
+          ∙ ap suc (gap_only false gap rest p.1 z)
+      | inr p ↦ ap (λ k. gap_behind k (gap_len false (gap ++ rest)) (gap_len true (gap ++ rest))) p.0
+          ∙ ap suc (gap_only true gap rest p.1 z)
     ]
 
-some_of_class : (k : ByteClass) (bs : List ℕ) (inside : Bool) → opens_comment k ≡ Some inside → gap_behind k (gap_len false bs) (gap_len true bs) ≡ suc (gap_len inside bs)
+some_of_class : (k : ByteClass) (bs : List ℕ) (inside : Bool) → opens_comment k ≡ Some inside
+    → gap_behind k (gap_len false bs) (gap_len true bs) ≡ suc (gap_len inside bs)
 some_of_class Blank bs inside h = ap (λ (o : Bool). suc (gap_len o bs)) (let e : false ≡ inside = cc in e)
 some_of_class Semicolon bs inside h = ap (λ (o : Bool). suc (gap_len o bs)) (let e : true ≡ inside = cc in e)
 some_of_class At bs inside h = cc
@@ -68,7 +76,8 @@ some_of_class Letter bs inside h = cc
 some_of_class Mark bs inside h = cc
 some_of_class Other bs inside h = cc
 
-pub gap_some : (inside : Bool) (b : ℕ) (bs : List ℕ) (behind : Bool) → comment_behind inside b ≡ Some behind → gap_len inside (b ∷ bs) ≡ suc (gap_len behind bs)
+pub gap_some : (inside : Bool) (b : ℕ) (bs : List ℕ) (behind : Bool) → comment_behind inside b ≡ Some behind
+    → gap_len inside (b ∷ bs) ≡ suc (gap_len behind bs)
 unfolding gap_len
 gap_some true b bs behind h = ap (λ (o : Bool). suc (gap_len o bs)) (let e : not (b == 10) ≡ behind = cc in e)
 gap_some false b bs behind h = some_of_class (class_of b) bs behind h

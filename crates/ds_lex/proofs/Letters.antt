@@ -1,5 +1,6 @@
 -- What the scanner finds is the token at the front, or there is none.
-use Rattle.std.proofs.Common.{◌≡◌, ℕ, ◌<◌, ◌≤◌, Bool, true, false, ◌⊎◌, cond, List, [], ◌∷◌, ◌++◌, length, take, drop, Option, Some, None, Ok, suc, zero, refl, sym, ◌∙◌, ap, subst, inl, inr, arith}
+use Rattle.std.proofs.Common.{◌≡◌, ℕ, ◌<◌, ◌≤◌, Bool, true, false, ◌⊎◌, cond, List, [], ◌∷◌, ◌++◌, length, take, drop}
+use Rattle.std.proofs.Common.{Option, Some, None, Ok, suc, zero, refl, sym, ◌∙◌, ap, subst, inl, inr, arith}
 use Rattle.std.proofs.lemmas.Bool.Decides.{nat_tests}
 use Rattle.ds_lex.specs.declared.bytes.ByteClass.{ByteClass}
 use Rattle.ds_lex.specs.declared.bytes.ByteClass.TheVariants.{Digit, Letter}
@@ -35,19 +36,25 @@ colon_is [] h = absurd cc
 colon_is (b ∷ bs) h = let e : b ≡ 58 = grind (arith, nat_tests) in (bs, ap (λ (x : ℕ). x ∷ bs) e)
 
 -- where a run of names, and a colon, are the first i bytes, the colon stands behind the run
-pub name_colon : (bs : List ℕ) (i : ℕ) → i ≤ length bs → NameColon (take i bs) → (i ≡ suc (run_len NameBytes bs)) × (starts_colon (drop (run_len NameBytes bs) bs) ≡ true)
+pub name_colon : (bs : List ℕ) (i : ℕ) → i ≤ length bs → NameColon (take i bs) → (i ≡ suc (run_len NameBytes bs))
+    × (starts_colon (drop (run_len NameBytes bs) bs) ≡ true)
 unfolding class_of
 name_colon bs i l s =
     let e = run_ended NameBytes bs s.0 58 [] i l s.2 refl s.1 in (
       omega (arith, e.taken, e.run),
-      ap (λ (n : ℕ). starts_colon (drop n bs)) e.run ∙ ap (λ (xs : List ℕ). starts_colon (drop (length s.0) xs)) e.whole ∙ ap starts_colon (drop_inside s.0 (58 ∷ e.rest)),
+      ap (λ (n : ℕ). starts_colon (drop n bs)) e.run
+          ∙ ap (λ (xs : List ℕ). starts_colon (drop (length s.0) xs)) e.whole
+          ∙ ap starts_colon (drop_inside s.0 (58 ∷ e.rest)),
     )
 
-pub digits_colon : (bs : List ℕ) (i : ℕ) → i ≤ length bs → DigitsColon (take i bs) → (i ≡ suc (run_len Digits bs)) × (starts_colon (drop (run_len Digits bs) bs) ≡ true)
+pub digits_colon : (bs : List ℕ) (i : ℕ) → i ≤ length bs → DigitsColon (take i bs) → (i ≡ suc (run_len Digits bs))
+    × (starts_colon (drop (run_len Digits bs) bs) ≡ true)
 digits_colon bs i l s =
     let e = run_ended Digits bs s.0 58 [] i l s.2 refl s.1 in (
       omega (arith, e.taken, e.run),
-      ap (λ (n : ℕ). starts_colon (drop n bs)) e.run ∙ ap (λ (xs : List ℕ). starts_colon (drop (length s.0) xs)) e.whole ∙ ap starts_colon (drop_inside s.0 (58 ∷ e.rest)),
+      ap (λ (n : ℕ). starts_colon (drop n bs)) e.run
+          ∙ ap (λ (xs : List ℕ). starts_colon (drop (length s.0) xs)) e.whole
+          ∙ ap starts_colon (drop_inside s.0 (58 ∷ e.rest)),
     )
 
 -- the same end behind two lists
@@ -65,7 +72,8 @@ same_before (b ∷ bs) (c ∷ cs) e h =
     ap (λ (x : ℕ). x ∷ bs) p.0 ∙ ap (λ (xs : List ℕ). c ∷ xs) (same_before bs cs e p.1)
 
 -- the name of a label that begins with a byte of this class
-pub label_in_range : (b : ℕ) (bs : List ℕ) (class : ByteClass) → class_of b ≡ class → (class ≡ Digit → ⊥) → IsInRange Label (b ∷ bs)
+pub label_in_range : (b : ℕ) (bs : List ℕ) (class : ByteClass) → class_of b ≡ class → (class ≡ Digit → ⊥)
+    → IsInRange Label (b ∷ bs)
 label_in_range b bs class c n [] e d = absurd d
 label_in_range b bs class c n (x ∷ xs) e d =
     let p = tails b x bs (xs ++ 58 ∷ []) e in
@@ -78,13 +86,15 @@ no_letter class a b = cc
 letter_stands : (b : ℕ) → class_of b ≡ Letter → belongs NameBytes b ≡ true
 letter_stands b c = ap stands_in_name c
 
-ctext : (b : ℕ) (bs : List ℕ) (n : ℕ) → class_of b ≡ Letter → ctext_len (b ∷ bs) ≡ Some n → Judged (b ∷ bs) (Ok (CText, n))
+ctext : (b : ℕ) (bs : List ℕ) (n : ℕ) → class_of b ≡ Letter → ctext_len (b ∷ bs) ≡ Some n
+    → Judged (b ∷ bs) (Ok (CText, n))
 ctext b bs n c h =
     let t = ctext_is b bs n h in
     let m = t.len in
     let x = text_is bs m t.found in
     let f = text_front bs m x.within x.text in
-    let others : (other : TokenKind) (i : ℕ) → i ≤ length bs → Forms Letter b (take i bs) other → (i < m) ⊎ ((i ≡ m) × (other ≡ CText)) =
+    let others : (other : TokenKind) (i : ℕ) → i ≤ length bs → Forms Letter b (take i bs) other → (i < m)
+    ⊎ ((i ≡ m) × (other ≡ CText)) =
     λ other i l s. elim s [
       | inl w ↦ inl (omega (arith, run_take NameBytes bs i l w.1, f.1, x.some))
       | inr r ↦ elim r [
@@ -95,11 +105,13 @@ ctext b bs n c h =
     let P : ℕ → Type 0 = λ k. Judged (b ∷ bs) (Ok (CText, k)) in
     subst P t.one_more (only_behind b bs Letter CText m c x.within (t.c, x.text) others, tt, tt)
 
-word_plain : (b : ℕ) (bs : List ℕ) → class_of b ≡ Letter → ctext_len (b ∷ bs) ≡ None → starts_colon (drop (run_len NameBytes bs) bs) ≡ false → Judged (b ∷ bs) (Ok (Word, suc (run_len NameBytes bs)))
+word_plain : (b : ℕ) (bs : List ℕ) → class_of b ≡ Letter → ctext_len (b ∷ bs) ≡ None
+    → starts_colon (drop (run_len NameBytes bs) bs) ≡ false → Judged (b ∷ bs) (Ok (Word, suc (run_len NameBytes bs)))
 word_plain b bs c none h =
     let r = run_len NameBytes bs in
     let u = run NameBytes bs in
-    let others : (other : TokenKind) (i : ℕ) → i ≤ length bs → Forms Letter b (take i bs) other → (i < r) ⊎ ((i ≡ r) × (other ≡ Word)) =
+    let others : (other : TokenKind) (i : ℕ) → i ≤ length bs → Forms Letter b (take i bs) other → (i < r)
+    ⊎ ((i ≡ r) × (other ≡ Word)) =
     λ other i l s. elim s [
       | inl w ↦ less_or_same i r (other ≡ Word) (run_take NameBytes bs i l w.1) w.0
       | inr q ↦ elim q [
@@ -109,13 +121,16 @@ word_plain b bs c none h =
     ] in
     (only_behind b bs Letter Word r c u.within (c, u.all) others, tt, tt)
 
-word_label : (b : ℕ) (bs : List ℕ) → class_of b ≡ Letter → ctext_len (b ∷ bs) ≡ None → starts_colon (drop (run_len NameBytes bs) bs) ≡ true → Judged (b ∷ bs) (Ok (Label, suc (suc (run_len NameBytes bs))))
+word_label : (b : ℕ) (bs : List ℕ) → class_of b ≡ Letter → ctext_len (b ∷ bs) ≡ None
+    → starts_colon (drop (run_len NameBytes bs) bs) ≡ true
+    → Judged (b ∷ bs) (Ok (Label, suc (suc (run_len NameBytes bs))))
 word_label b bs c none h =
     let r = run_len NameBytes bs in
     let u = run NameBytes bs in
     let q = colon_is (drop r bs) h in
     let e = ap (λ (xs : List ℕ). b ∷ xs) (take_next r bs 58 q.0 q.1) in
-    let others : (other : TokenKind) (i : ℕ) → i ≤ length bs → Forms Letter b (take i bs) other → (i < suc r) ⊎ ((i ≡ suc r) × (other ≡ Label)) =
+    let others : (other : TokenKind) (i : ℕ) → i ≤ length bs → Forms Letter b (take i bs) other → (i < suc r)
+    ⊎ ((i ≡ suc r) × (other ≡ Label)) =
     λ other i l s. elim s [
       | inl w ↦ inl (omega (arith, run_take NameBytes bs i l w.1))
       | inr q ↦ elim q [
@@ -128,18 +143,21 @@ word_label b bs c none h =
       label_in_range b (take (suc r) bs) Letter c (no_letter Letter refl),
     )
 
-word_by : (b : ℕ) (bs : List ℕ) → class_of b ≡ Letter → ctext_len (b ∷ bs) ≡ None → (t : Bool) → starts_colon (drop (run_len NameBytes bs) bs) ≡ t
+word_by : (b : ℕ) (bs : List ℕ) → class_of b ≡ Letter → ctext_len (b ∷ bs) ≡ None → (t : Bool)
+    → starts_colon (drop (run_len NameBytes bs) bs) ≡ t
     → Judged (b ∷ bs) (Ok (cond t (Label, suc (suc (run_len NameBytes bs))) (Word, suc (run_len NameBytes bs))))
 word_by b bs c none true h = word_label b bs c none h
 word_by b bs c none false h = word_plain b bs c none h
 
-word : (b : ℕ) (bs : List ℕ) (n : ℕ) → n ≡ suc (run_len NameBytes bs) → class_of b ≡ Letter → ctext_len (b ∷ bs) ≡ None → Judged (b ∷ bs) (Ok (labelled Word n (b ∷ bs)))
+word : (b : ℕ) (bs : List ℕ) (n : ℕ) → n ≡ suc (run_len NameBytes bs) → class_of b ≡ Letter
+    → ctext_len (b ∷ bs) ≡ None → Judged (b ∷ bs) (Ok (labelled Word n (b ∷ bs)))
 unfolding labelled
 word b bs n e c none =
     let P : ℕ → Type 0 = λ n. Judged (b ∷ bs) (Ok (cond (starts_colon (drop n (b ∷ bs))) (Label, suc n) (Word, n))) in
     subst P (sym e) (word_by b bs c none (starts_colon (drop (run_len NameBytes bs) bs)) refl)
 
-letter_by : (b : ℕ) (bs : List ℕ) → class_of b ≡ Letter → (o : Option ℕ) → ctext_len (b ∷ bs) ≡ o → Judged (b ∷ bs) (Ok (worded_by o (b ∷ bs)))
+letter_by : (b : ℕ) (bs : List ℕ) → class_of b ≡ Letter → (o : Option ℕ) → ctext_len (b ∷ bs) ≡ o
+    → Judged (b ∷ bs) (Ok (worded_by o (b ∷ bs)))
 letter_by b bs c (Some n) h = ctext b bs n c h
 letter_by b bs c None h = word b bs (run_len NameBytes (b ∷ bs)) (run_more NameBytes b bs (letter_stands b c)) c h
 

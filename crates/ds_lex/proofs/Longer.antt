@@ -1,8 +1,10 @@
 -- Where what is spelled is followed by bytes that no token goes on with, no longer spelling stands there.
-use Rattle.std.proofs.Common.{◌≡◌, ℕ, ◌<◌, ◌≤◌, true, false, List, length, take, drop, Some, suc, zero, ap, inl, inr, arith}
+use Rattle.std.proofs.Common.{◌≡◌, ℕ, ◌<◌, ◌≤◌, true, false, List, length, take, drop, Some, suc, zero, ap, inl, inr}
+use Rattle.std.proofs.Common.{arith}
 use Rattle.std.specs.List.{list_all}
 use Rattle.ds_lex.specs.declared.bytes.ByteClass.{ByteClass}
-use Rattle.ds_lex.specs.declared.bytes.ByteClass.TheVariants.{Blank, Semicolon, Percent, At, Hash, Bang, Quote, Minus, Digit, Letter, Mark, Other}
+use Rattle.ds_lex.specs.declared.bytes.ByteClass.TheVariants.{Blank, Semicolon, Percent, At, Hash, Bang, Quote, Minus}
+use Rattle.ds_lex.specs.declared.bytes.ByteClass.TheVariants.{Digit, Letter, Mark, Other}
 use Rattle.ds_lex.specs.declared.bytes.RunOf.TheVariants.{NameBytes, Digits}
 use Rattle.ds_lex.specs.declared.token.TokenKind.{TokenKind}
 use Rattle.ds_lex.specs.Bytes.{belongs}
@@ -49,7 +51,8 @@ any_text bs j i p l e f =
       ]
     ]
 
-any_longer : (bs : List ℕ) (j i : ℕ) → j < i → i ≤ length bs → Stops (drop j bs) → IsAnyName (take j bs) → IsAnyName (take i bs) → ⊥
+any_longer : (bs : List ℕ) (j i : ℕ) → j < i → i ≤ length bs → Stops (drop j bs) → IsAnyName (take j bs)
+    → IsAnyName (take i bs) → ⊥
 any_longer bs j i p l s e f =
     elim f [
       | inl x ↦ name_longer bs j i p l s x
@@ -72,13 +75,15 @@ word_longer b bs other j i p l s e f =
     elim f [
       | inl x ↦ omega (arith, p, r, run_take NameBytes bs i l x.1)
       | inr q ↦ elim q [
-        | inl x ↦ let c = name_colon bs i l x.1 in colon_at bs (run_len NameBytes bs) j (omega (arith, p, r, c.0)) c.1 s.colon
+        | inl x ↦ let c =
+            name_colon bs i l x.1 in colon_at bs (run_len NameBytes bs) j (omega (arith, p, r, c.0)) c.1 s.colon
         | inr x ↦ no_text bs j i (omega (arith, run_take NameBytes bs j m e, (text_front bs i l x.2).1)) s x.2
       ]
     ]
 
 label_longer : (b : ℕ) (bs : List ℕ) (other : TokenKind) (j i : ℕ) → j < i → i ≤ length bs
-    → j ≡ suc (run_len NameBytes bs) → starts_colon (drop (run_len NameBytes bs) bs) ≡ true → Forms Letter b (take i bs) other → ⊥
+    → j ≡ suc (run_len NameBytes bs) → starts_colon (drop (run_len NameBytes bs) bs) ≡ true
+    → Forms Letter b (take i bs) other → ⊥
 label_longer b bs other j i p l e h f =
     elim f [
       | inl x ↦ omega (arith, p, e, run_take NameBytes bs i l x.1)
@@ -88,7 +93,8 @@ label_longer b bs other j i p l e h f =
       ]
     ]
 
-ctext_longer : (b : ℕ) (bs : List ℕ) (other : TokenKind) (j i : ℕ) → j < i → i ≤ length bs → IsText (take j bs) → Forms Letter b (take i bs) other → ⊥
+ctext_longer : (b : ℕ) (bs : List ℕ) (other : TokenKind) (j i : ℕ) → j < i → i ≤ length bs → IsText (take j bs)
+    → Forms Letter b (take i bs) other → ⊥
 ctext_longer b bs other j i p l e f =
     let t = text_front bs j (omega (arith, p, l)) e in
     elim f [
@@ -100,15 +106,18 @@ ctext_longer b bs other j i p l e f =
     ]
 
 -- behind digits, and a label in digits
-number_longer : (b : ℕ) (bs : List ℕ) (other : TokenKind) (j i : ℕ) → j < i → i ≤ length bs → Stops (drop j bs) → Forms Digit b (take i bs) other → ⊥
+number_longer : (b : ℕ) (bs : List ℕ) (other : TokenKind) (j i : ℕ) → j < i → i ≤ length bs → Stops (drop j bs)
+    → Forms Digit b (take i bs) other → ⊥
 number_longer b bs other j i p l s f =
     let r = run_stops Digits bs j s.digits in
     elim f [
       | inl x ↦ omega (arith, p, r, run_take Digits bs i l x.1)
-      | inr x ↦ let c = digits_colon bs i l x.1 in colon_at bs (run_len Digits bs) j (omega (arith, p, r, c.0)) c.1 s.colon
+      | inr x ↦ let c =
+          digits_colon bs i l x.1 in colon_at bs (run_len Digits bs) j (omega (arith, p, r, c.0)) c.1 s.colon
     ]
 
-numbered_longer : (b : ℕ) (bs : List ℕ) (other : TokenKind) (j i : ℕ) → j < i → i ≤ length bs → j ≡ suc (run_len Digits bs) → Forms Digit b (take i bs) other → ⊥
+numbered_longer : (b : ℕ) (bs : List ℕ) (other : TokenKind) (j i : ℕ) → j < i → i ≤ length bs
+    → j ≡ suc (run_len Digits bs) → Forms Digit b (take i bs) other → ⊥
 numbered_longer b bs other j i p l e f =
     elim f [
       | inl x ↦ omega (arith, p, e, run_take Digits bs i l x.1)
@@ -116,21 +125,26 @@ numbered_longer b bs other j i p l e f =
     ]
 
 -- behind a text, and a label that is a text
-quoted_longer : (b : ℕ) (bs : List ℕ) (other : TokenKind) (j i : ℕ) → j < i → i ≤ length bs → Stops (drop j bs) → closed_len bs ≡ Some j → Forms Quote b (take i bs) other → ⊥
+quoted_longer : (b : ℕ) (bs : List ℕ) (other : TokenKind) (j i : ℕ) → j < i → i ≤ length bs → Stops (drop j bs)
+    → closed_len bs ≡ Some j → Forms Quote b (take i bs) other → ⊥
 quoted_longer b bs other j i p l s e f =
     elim f [
       | inl x ↦ omega (arith, p, some_same (closed_len bs) j i e (closed_only bs i l x.1))
-      | inr x ↦ let c = closed_colon bs i l x.1 in colon_at bs c.len j (some_same (closed_len bs) c.len j c.closed e) c.colon s.colon
+      | inr x ↦ let c =
+          closed_colon bs i l x.1 in colon_at bs c.len j (some_same (closed_len bs) c.len j c.closed e) c.colon s.colon
     ]
 
-named_longer : (b : ℕ) (bs : List ℕ) (other : TokenKind) (j n i : ℕ) → j < i → i ≤ length bs → j ≡ suc n → closed_len bs ≡ Some n → Forms Quote b (take i bs) other → ⊥
+named_longer : (b : ℕ) (bs : List ℕ) (other : TokenKind) (j n i : ℕ) → j < i → i ≤ length bs → j ≡ suc n
+    → closed_len bs ≡ Some n → Forms Quote b (take i bs) other → ⊥
 named_longer b bs other j n i p l e h f =
     elim f [
       | inl x ↦ omega (arith, p, e, some_same (closed_len bs) n i h (closed_only bs i l x.1))
-      | inr x ↦ let c = closed_colon bs i l x.1 in omega (arith, p, e, c.taken, some_same (closed_len bs) c.len n c.closed h)
+      | inr x ↦ let c =
+          closed_colon bs i l x.1 in omega (arith, p, e, c.taken, some_same (closed_len bs) c.len n c.closed h)
     ]
 
-pub no_longer : (class : ByteClass) (b : ℕ) (bs : List ℕ) (kind other : TokenKind) (j i : ℕ) → j < i → i ≤ length bs → Stops (drop j bs)
+pub no_longer : (class : ByteClass) (b : ℕ) (bs : List ℕ) (kind other : TokenKind) (j i : ℕ) → j < i → i ≤ length bs
+    → Stops (drop j bs)
     → Forms class b (take j bs) kind → Forms class b (take i bs) other → ⊥
 no_longer Letter b bs kind other j i p l s e f =
     elim e [
@@ -148,7 +162,8 @@ no_longer Digit b bs kind other j i p l s e f =
 no_longer Quote b bs kind other j i p l s e f =
     elim e [
       | inl x ↦ quoted_longer b bs other j i p l s (closed_only bs j (omega (arith, p, l)) x.1) f
-      | inr x ↦ let c = closed_colon bs j (omega (arith, p, l)) x.1 in named_longer b bs other j c.len i p l c.taken c.closed f
+      | inr x ↦ let c =
+          closed_colon bs j (omega (arith, p, l)) x.1 in named_longer b bs other j c.len i p l c.taken c.closed f
     ]
 no_longer Percent b bs kind other j i p l s e f = any_longer bs j i p l s e.1 f.1
 no_longer At b bs kind other j i p l s e f = any_longer bs j i p l s e.1 f.1

@@ -1,9 +1,11 @@
 -- A name, digits or a text at the front of bytes.
-use Rattle.std.proofs.Common.{◌≡◌, ℕ, ◌<◌, ◌≤◌, ◌^◌, Bool, true, false, ◌&&◌, ltb, List, [], ◌∷◌, length, take, Some, suc, zero, refl, sym, ◌∙◌, ap, subst, arith}
+use Rattle.std.proofs.Common.{◌≡◌, ℕ, ◌<◌, ◌≤◌, ◌^◌, Bool, true, false, ◌&&◌, ltb, List, [], ◌∷◌, length, take, Some}
+use Rattle.std.proofs.Common.{suc, zero, refl, sym, ◌∙◌, ap, subst, arith}
 use Rattle.std.proofs.lemmas.Bool.Decides.{nat_tests}
 use Rattle.std.specs.List.{list_all}
 use Rattle.ds_lex.specs.declared.bytes.ByteClass.{ByteClass}
-use Rattle.ds_lex.specs.declared.bytes.ByteClass.TheVariants.{Blank, Semicolon, Percent, At, Hash, Bang, Quote, Minus, Digit, Letter, Mark, Other}
+use Rattle.ds_lex.specs.declared.bytes.ByteClass.TheVariants.{Blank, Semicolon, Percent, At, Hash, Bang, Quote, Minus}
+use Rattle.ds_lex.specs.declared.bytes.ByteClass.TheVariants.{Digit, Letter, Mark, Other}
 use Rattle.ds_lex.specs.declared.bytes.RunOf.TheVariants.{NameBytes, Digits}
 use Rattle.ds_lex.specs.Bytes.{is_digit, class_of, begins_name, stands_in_name, belongs}
 use Rattle.ds_lex.specs.Number.{decimal, is_small}
@@ -92,17 +94,28 @@ text_some bs zero s = absurd s
 text_some bs (suc i) s = omega arith
 
 -- which name stands at the front
-pub name_len : (bs : List ℕ) (i : ℕ) → i ≤ length bs → IsName (take i bs) → (starts_name bs ≡ true) × (i ≤ run_len NameBytes bs)
-name_len bs i l s = (sym (starts_same bs i (name_some bs i s)) ∙ name_starts (take i bs) s, run_take NameBytes bs i l (name_stands (take i bs) s))
+pub name_len : (bs : List ℕ) (i : ℕ) → i ≤ length bs → IsName (take i bs) → (starts_name bs ≡ true)
+    × (i ≤ run_len NameBytes bs)
+name_len bs i l s = (
+  sym (starts_same bs i (name_some bs i s))
+      ∙ name_starts (take i bs) s,
+  run_take NameBytes bs i l (name_stands (take i bs) s),
+)
 
-pub digits_len : (bs : List ℕ) (i : ℕ) → i ≤ length bs → IsDigits (take i bs) → (starts_name bs ≡ false) × (0 < i) × (i ≤ run_len Digits bs)
-digits_len bs i l s =
-    (sym (starts_same bs i (digits_some bs i s)) ∙ digits_start_none (take i bs) s, digits_some bs i s, run_take Digits bs i l (digits_all (take i bs) s))
+pub digits_len : (bs : List ℕ) (i : ℕ) → i ≤ length bs → IsDigits (take i bs) → (starts_name bs ≡ false) × (0 < i)
+    × (i ≤ run_len Digits bs)
+digits_len bs i l s = (
+  sym (starts_same bs i (digits_some bs i s)) ∙ digits_start_none
+      (take i bs) s,
+  digits_some bs i s,
+  run_take Digits bs i l (digits_all (take i bs) s),
+)
 
 text_first : (bs : List ℕ) (i : ℕ) → IsText (take i bs) → (run_len NameBytes bs ≡ 0) × (run_len Digits bs ≡ 0)
 text_first bs zero s = absurd s
 text_first [] (suc i) s = absurd s
-text_first (b ∷ bs) (suc i) s = (run_none NameBytes b bs (ap stands_in_name s.0), run_none Digits b bs (quote_no_digit b s.0 (is_digit b) refl))
+text_first (b ∷ bs) (suc i) s =
+    (run_none NameBytes b bs (ap stands_in_name s.0), run_none Digits b bs (quote_no_digit b s.0 (is_digit b) refl))
 
 pub text_front : (bs : List ℕ) (i : ℕ) → i ≤ length bs → IsText (take i bs)
     → (starts_name bs ≡ false) × (run_len NameBytes bs ≡ 0) × (run_len Digits bs ≡ 0) × (text_len bs ≡ Some i)
@@ -117,7 +130,8 @@ name_here (b ∷ bs) h =
     let P : ℕ → Type 0 = λ n. IsName (take n (b ∷ bs)) in
     subst P (sym (run_more NameBytes b bs (name_first (class_of b) h))) (h, (run NameBytes bs).all)
 
-digits_are : (bs : List ℕ) (n : ℕ) → 0 < n → n ≤ length bs → list_all (belongs Digits) (take n bs) ≡ true → IsDigits (take n bs)
+digits_are : (bs : List ℕ) (n : ℕ) → 0 < n → n ≤ length bs → list_all (belongs Digits) (take n bs) ≡ true
+    → IsDigits (take n bs)
 digits_are bs zero p l h = absurd (omega (arith, p))
 digits_are [] (suc n) p l h = absurd (omega (arith, l))
 digits_are (b ∷ bs) (suc n) p l h = h

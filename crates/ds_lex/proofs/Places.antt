@@ -1,5 +1,6 @@
 -- The token or the fault behind a place of the text.
-use Rattle.std.proofs.Common.{◌≡◌, ℕ, ◌+◌, ◌-◌, ◌≤◌, false, List, [], ◌++◌, length, take, drop, Ok, Err, refl, sym, ◌∙◌, ap, subst, arith, length-drop}
+use Rattle.std.proofs.Common.{◌≡◌, ℕ, ◌+◌, ◌-◌, ◌≤◌, false, List, [], ◌++◌, length, take, drop, Ok, Err, refl, sym}
+use Rattle.std.proofs.Common.{◌∙◌, ap, subst, arith, length-drop}
 use Rattle.std.specs.List.{slice_range}
 use Rattle.std.proofs.lemmas.List.{take-append-drop, drop-drop, length-take-le}
 use Rattle.ds_lex.specs.declared.fault.LexFault.{LexFault}
@@ -12,13 +13,15 @@ use Rattle.ds_lex.specs.Scan.{Scanned, gap_len, token_at, fault_of}
 use Rattle.ds_lex.proofs.Gaps.{gap_found, gap_only}
 use Rattle.ds_lex.proofs.Judged.{Judged}
 use Rattle.ds_lex.proofs.Fronts.{front}
-use Rattle.ds_lex.proofs.Agreement.{FlawAt, token_is, flaw_is, fault_is, told, agrees_token, agrees_flaw, token_no_gap, flaw_no_gap}
+use Rattle.ds_lex.proofs.Agreement.{FlawAt, token_is, flaw_is, fault_is, told, agrees_token, agrees_flaw}
+use Rattle.ds_lex.proofs.Agreement.{token_no_gap, flaw_no_gap}
 
 -- a part of the list and what is left behind it
 parts : (xs : List ℕ) (i j : ℕ) → i ≤ j → drop i xs ≡ slice_range xs i j ++ drop j xs
 parts xs i j h =
     let e : i + (j - i) ≡ j = omega arith in
-    sym (take-append-drop (j - i) (drop i xs)) ∙ ap (λ r. slice_range xs i j ++ r) (drop-drop (j - i) i xs ∙ ap (λ (n : ℕ). drop n xs) e)
+    sym (take-append-drop (j - i) (drop i xs)) ∙ ap (λ r. slice_range xs i j ++ r)
+    (drop-drop (j - i) i xs ∙ ap (λ (n : ℕ). drop n xs) e)
 
 length_part : (xs : List ℕ) (i j : ℕ) → i ≤ j → j ≤ length xs → length (slice_range xs i j) ≡ j - i
 length_part xs i j h l = length-take-le (j - i) (drop i xs) (omega (arith, length-drop i xs))
@@ -38,17 +41,22 @@ gap_at text at h =
     record {
       behind = omega arith;
       within = omega (arith, f.within, length-drop at text);
-      gap = subst (λ gap. P gap (drop (at + n) text)) (sym (part_at text at n)) (subst (λ rest. P (take n (drop at text)) rest) (drop-drop n at text) f.gap);
+      gap = subst (λ gap. P gap (drop (at + n) text)) (sym (part_at text at n))
+          (subst (λ rest. P (take n (drop at text)) rest) (drop-drop n at text) f.gap);
     }
 
 no_gap_left : (text : List ℕ) (at : ℕ) → gap_len false (drop (gap_end text at) text) ≡ 0
-no_gap_left text at = ap (gap_len false) (sym (drop-drop (gap_len false (drop at text)) at text)) ∙ (gap_found false (drop at text)).rest
+no_gap_left text at =
+    ap (gap_len false) (sym (drop-drop (gap_len false (drop at text)) at text)) ∙ (gap_found false (drop at text)).rest
 
 -- the scanner's judgement behind the gap
-judged_at : (text : List ℕ) (at : ℕ) (r : Scanned) → token_at (drop (gap_end text at) text) ≡ r → Judged (drop (gap_end text at) text) r
-judged_at text at r e = let P : Scanned → Type 0 = λ r. Judged (drop (gap_end text at) text) r in subst P e (front (drop (gap_end text at) text) (no_gap_left text at))
+judged_at : (text : List ℕ) (at : ℕ) (r : Scanned) → token_at (drop (gap_end text at) text) ≡ r
+    → Judged (drop (gap_end text at) text) r
+judged_at text at r e = let P : Scanned → Type 0 = λ r. Judged (drop (gap_end text at) text) r in
+    subst P e (front (drop (gap_end text at) text) (no_gap_left text at))
 
-pub found_at : (text : List ℕ) (at : ℕ) (kind : TokenKind) (len : ℕ) → at ≤ length text → token_at (drop (gap_end text at) text) ≡ Ok (kind, len)
+pub found_at : (text : List ℕ) (at : ℕ) (kind : TokenKind) (len : ℕ) → at ≤ length text
+    → token_at (drop (gap_end text at) text) ≡ Ok (kind, len)
     → IsTokenAt text at (record { kind = kind; start = gap_end text at; end = gap_end text at + len })
 found_at text at kind len h e =
     let start = gap_end text at in
@@ -63,12 +71,19 @@ token_within text at t h = omega (arith, h.ordered, h.gap.within, h.is.longest.w
 
 pub fault_at : (text : List ℕ) (at : ℕ) (f : Flaw) → at ≤ length text → token_at (drop (gap_end text at) text) ≡ Err f
     → FaultFrom text at [] (fault_of f (gap_end text at) (length text))
-fault_at text at f h e = (gap_end text at, gap_at text at h, fault_is text (gap_end text at) f (flaw_is (drop (gap_end text at) text) f (judged_at text at (Err f) e)))
+fault_at text at f h e = (
+  gap_end text at,
+  gap_at text at h,
+  fault_is text (gap_end text at) f
+      (flaw_is (drop (gap_end text at) text) f (judged_at text at (Err f) e)),
+)
 
 -- a gap that is followed by none is the whole one
-one_gap : (text : List ℕ) (at start : ℕ) → IsGap text at start → gap_len false (drop start text) ≡ 0 → gap_end text at ≡ start
+one_gap : (text : List ℕ) (at start : ℕ) → IsGap text at start → gap_len false (drop start text) ≡ 0
+    → gap_end text at ≡ start
 one_gap text at start g z =
-    let e = ap (gap_len false) (parts text at start g.behind) ∙ gap_only false (slice_range text at start) (drop start text) g.gap z
+    let e = ap (gap_len false) (parts text at start g.behind)
+    ∙ gap_only false (slice_range text at start) (drop start text) g.gap z
     ∙ length_part text at start g.behind g.within in
     omega (arith, e, g.behind)
 
@@ -109,7 +124,8 @@ ok_same : (x y : TokenKind × ℕ) → (let r : Scanned = Ok x in r) ≡ Ok y �
 ok_same x y h = cc
 
 -- a token with the kind, the start and the length of t is t
-pub same_token : (t : Token) (kind : TokenKind) (start len : ℕ) → start ≡ t.start → OkPair kind len ≡ OkPair t.kind (t.end - t.start) → t.start ≤ t.end
+pub same_token : (t : Token) (kind : TokenKind) (start len : ℕ) → start ≡ t.start
+    → OkPair kind len ≡ OkPair t.kind (t.end - t.start) → t.start ≤ t.end
     → (let u : Token = record { kind = kind; start = start; end = start + len } in u) ≡ t
 same_token t kind start len s h o =
     let x : TokenKind × ℕ = (kind, len) in
@@ -118,7 +134,8 @@ same_token t kind start len s h o =
     let l : len ≡ t.end - t.start = ap (λ (q : TokenKind × ℕ). q.1) p in
     let e : start + len ≡ t.end = omega arith in
     let make : TokenKind → ℕ → ℕ → Token = λ k i j. record { kind = k; start = i; end = j } in
-    ap (λ k. make k start (start + len)) (ap (λ (q : TokenKind × ℕ). q.0) p) ∙ ap (λ i. make t.kind i (start + len)) s ∙ ap (make t.kind t.start) e
+    ap (λ k. make k start (start + len)) (ap (λ (q : TokenKind × ℕ). q.0) p) ∙ ap (λ i. make t.kind i (start + len)) s
+    ∙ ap (make t.kind t.start) e
 
 pub ok_is_no_err : (found : TokenKind × ℕ) (f : Flaw) → (let r : Scanned = Ok found in r) ≡ Err f → ⊥
 ok_is_no_err found f h = cc

@@ -1,5 +1,6 @@
 -- The run of bytes of a set.
-use Rattle.std.proofs.Common.{◌≡◌, ℕ, ◌+◌, ◌≤◌, Bool, true, false, ◌&&◌, cond, List, [], ◌∷◌, ◌++◌, length, take, drop, suc, zero, refl, sym, ◌∙◌, ap, arith, length-append, append_assoc}
+use Rattle.std.proofs.Common.{◌≡◌, ℕ, ◌+◌, ◌≤◌, Bool, true, false, ◌&&◌, cond, List, [], ◌∷◌, ◌++◌, length, take}
+use Rattle.std.proofs.Common.{drop, suc, zero, refl, sym, ◌∙◌, ap, arith, length-append, append_assoc}
 use Rattle.std.specs.List.{list_all}
 use Rattle.std.proofs.lemmas.List.{take-append-drop}
 use Rattle.ds_lex.specs.declared.bytes.RunOf.{RunOf}
@@ -29,8 +30,14 @@ pub record Run (set : RunOf) (bytes : List ℕ) (n : ℕ) : Type 0 where
   pub ends : first_belongs set (drop n bytes) ≡ false
   pub within : n ≤ length bytes
 
-one_more : (set : RunOf) (b : ℕ) (bs : List ℕ) (n : ℕ) (t : Bool) → belongs set b ≡ t → Run set bs n → Run set (b ∷ bs) (cond t (suc n) 0)
-one_more set b bs n true h r = record { all = ap (λ x. x && list_all (belongs set) (take n bs)) h ∙ r.all; ends = r.ends; within = omega (arith, r.within) }
+one_more : (set : RunOf) (b : ℕ) (bs : List ℕ) (n : ℕ) (t : Bool) → belongs set b ≡ t → Run set bs n
+    → Run set (b ∷ bs) (cond t (suc n) 0)
+one_more set b bs n true h r = record {
+  all = ap (λ x. x && list_all (belongs set) (take n bs)) h
+      ∙ r.all;
+  ends = r.ends;
+  within = omega (arith, r.within);
+}
 one_more set b bs n false h r = record { all = refl; ends = h; within = omega arith }
 
 pub run : (set : RunOf) (bytes : List ℕ) → Run set bytes (run_len set bytes)
@@ -43,14 +50,16 @@ and_parts true b h = (refl, h)
 and_parts false b h = absurd cc
 
 -- no more bytes than the run belong to the set
-pub run_take : (set : RunOf) (bytes : List ℕ) (i : ℕ) → i ≤ length bytes → list_all (belongs set) (take i bytes) ≡ true → i ≤ run_len set bytes
+pub run_take : (set : RunOf) (bytes : List ℕ) (i : ℕ) → i ≤ length bytes
+    → list_all (belongs set) (take i bytes) ≡ true → i ≤ run_len set bytes
 run_take set bytes zero l a = omega arith
 run_take set [] (suc i) l a = absurd (omega (arith, l))
 run_take set (b ∷ bs) (suc i) l a =
     let p = and_parts (belongs set b) (list_all (belongs set) (take i bs)) a in
     omega (arith, run_more set b bs p.0, run_take set bs i (omega (arith, l)) p.1)
 
-pub run_only : (set : RunOf) (inside : List ℕ) (e : ℕ) (rest : List ℕ) → list_all (belongs set) inside ≡ true → belongs set e ≡ false → run_len set (inside ++ e ∷ rest) ≡ length inside
+pub run_only : (set : RunOf) (inside : List ℕ) (e : ℕ) (rest : List ℕ) → list_all (belongs set) inside ≡ true
+    → belongs set e ≡ false → run_len set (inside ++ e ∷ rest) ≡ length inside
 run_only set [] e rest a n = run_none set e rest n
 run_only set (b ∷ bs) e rest a n =
     let p = and_parts (belongs set b) (list_all (belongs set) bs) a in
@@ -68,11 +77,13 @@ length_taken zero bytes l = refl
 length_taken (suc i) [] l = absurd (omega (arith, l))
 length_taken (suc i) (b ∷ bs) l = ap suc (length_taken i bs (omega (arith, l)))
 
-pub run_ended : (set : RunOf) (bytes inside : List ℕ) (e : ℕ) (more : List ℕ) (i : ℕ) → i ≤ length bytes → list_all (belongs set) inside ≡ true → belongs set e ≡ false
+pub run_ended : (set : RunOf) (bytes inside : List ℕ) (e : ℕ) (more : List ℕ) (i : ℕ) → i ≤ length bytes
+    → list_all (belongs set) inside ≡ true → belongs set e ≡ false
     → take i bytes ≡ inside ++ e ∷ more → Ended set bytes inside e more i
 run_ended set bytes inside e more i l a n h =
     let rest = drop i bytes in
-    let whole = sym (take-append-drop i bytes) ∙ ap (λ (xs : List ℕ). xs ++ rest) h ∙ append_assoc inside (e ∷ more) rest in
+    let whole =
+    sym (take-append-drop i bytes) ∙ ap (λ (xs : List ℕ). xs ++ rest) h ∙ append_assoc inside (e ∷ more) rest in
     record {
       run = ap (run_len set) whole ∙ run_only set inside e (more ++ rest) a n;
       taken = sym (length_taken i bytes l) ∙ ap length h ∙ length-append inside (e ∷ more);
@@ -85,7 +96,8 @@ drop_inside [] rest = refl
 drop_inside (b ∷ bs) rest = drop_inside bs rest
 
 -- one more byte behind a run
-pub take_next : (n : ℕ) (bytes : List ℕ) (e : ℕ) (rest : List ℕ) → drop n bytes ≡ e ∷ rest → take (suc n) bytes ≡ take n bytes ++ e ∷ []
+pub take_next : (n : ℕ) (bytes : List ℕ) (e : ℕ) (rest : List ℕ) → drop n bytes ≡ e ∷ rest
+    → take (suc n) bytes ≡ take n bytes ++ e ∷ []
 take_next zero [] e rest h = absurd cc
 take_next (suc n) [] e rest h = absurd cc
 take_next zero (b ∷ bs) e rest h = let p : b ≡ e = cc in ap (λ (x : ℕ). x ∷ []) p

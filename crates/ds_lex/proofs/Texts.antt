@@ -1,5 +1,7 @@
 -- A text at the front of bytes.
-use Rattle.std.proofs.Common.{◌≡◌, ℕ, ◌+◌, ◌<◌, ◌≤◌, Bool, true, false, cond, eqb, ltb, List, [], ◌∷◌, ◌++◌, length, take, drop, Option, Some, None, option_map, suc, zero, refl, ◌∙◌, ap, subst, arith, length-drop, length-append}
+use Rattle.std.proofs.Common.{◌≡◌, ℕ, ◌+◌, ◌<◌, ◌≤◌, Bool, true, false, cond, eqb, ltb, List, [], ◌∷◌, ◌++◌, length}
+use Rattle.std.proofs.Common.{take, drop, Option, Some, None, option_map, suc, zero, refl, ◌∙◌, ap, subst, arith}
+use Rattle.std.proofs.Common.{length-drop, length-append}
 use Rattle.std.proofs.lemmas.Bool.Decides.{nat_tests}
 use Rattle.std.specs.List.{list_all}
 use Rattle.ds_lex.specs.declared.bytes.ByteClass.TheVariants.{Quote}
@@ -19,7 +21,8 @@ unfolding closed_len
 closed_here bs h = closed_some (run_len TextBytes bs) (length bs) h
 
 -- a quote behind a run of bytes other than quotes
-quote_behind : (bs inside : List ℕ) (more : List ℕ) (i : ℕ) → i ≤ length bs → list_all (belongs TextBytes) inside ≡ true → take i bs ≡ inside ++ 34 ∷ more
+quote_behind : (bs inside : List ℕ) (more : List ℕ) (i : ℕ) → i ≤ length bs
+    → list_all (belongs TextBytes) inside ≡ true → take i bs ≡ inside ++ 34 ∷ more
     → (closed_len bs ≡ Some (suc (length inside))) × (i ≡ length inside + suc (length more))
 quote_behind bs inside more i l a h =
     let e = run_ended TextBytes bs inside 34 more i l a refl h in
@@ -52,7 +55,8 @@ closed_colon bs i l s =
       len = suc (length s.0);
       closed = q.0;
       taken = omega (arith, q.1);
-      colon = ap (λ (xs : List ℕ). starts_colon (drop (suc (length s.0)) xs)) e.whole ∙ ap starts_colon (drop_past s.0 34 (58 ∷ e.rest));
+      colon = ap (λ (xs : List ℕ). starts_colon (drop (suc (length s.0)) xs)) e.whole
+          ∙ ap starts_colon (drop_past s.0 34 (58 ∷ e.rest));
     }
 
 next_quote : (xs : List ℕ) → first_belongs TextBytes xs ≡ false → 0 < length xs → (rest : List ℕ) × (xs ≡ 34 ∷ rest)
@@ -65,7 +69,8 @@ pub record Closed (bs : List ℕ) (n : ℕ) : Type 0 where
   pub closed : IsClosed (take n bs)
   pub some : 0 < n
 
-closed_by : (bs : List ℕ) (n : ℕ) → cond (ltb (run_len TextBytes bs) (length bs)) (Some (suc (run_len TextBytes bs))) None ≡ Some n
+closed_by : (bs : List ℕ) (n : ℕ) → cond (ltb (run_len TextBytes bs) (length bs))
+    (Some (suc (run_len TextBytes bs))) None ≡ Some n
     → (run_len TextBytes bs < length bs) × (suc (run_len TextBytes bs) ≡ n)
 closed_by bs n h = (grind (arith, nat_tests), grind (arith, nat_tests))
 
@@ -101,7 +106,8 @@ option_more : (o : Option ℕ) (n : ℕ) → option_map (λ n. suc n) o ≡ Some
 option_more None n h = absurd cc
 option_more (Some m) n h = (m, refl, cc)
 
-text_by : (b : ℕ) (bs : List ℕ) (n : ℕ) (t : Bool) → is_quote (class_of b) ≡ t → cond t (option_map (λ n. suc n) (closed_len bs)) None ≡ Some n → Texted (b ∷ bs) n
+text_by : (b : ℕ) (bs : List ℕ) (n : ℕ) (t : Bool) → is_quote (class_of b) ≡ t
+    → cond t (option_map (λ n. suc n) (closed_len bs)) None ≡ Some n → Texted (b ∷ bs) n
 text_by b bs n false e h = absurd cc
 text_by b bs n true e h =
     let p = option_more (closed_len bs) n h in
@@ -118,10 +124,12 @@ unfolding text_len
 text_is [] n h = absurd cc
 text_is (b ∷ bs) n h = text_by b bs n (is_quote (class_of b)) refl h
 
-pub ctext_only : (b : ℕ) (bs : List ℕ) (i : ℕ) → i ≤ length bs → b ≡ 99 → IsText (take i bs) → ctext_len (b ∷ bs) ≡ Some (suc i)
+pub ctext_only : (b : ℕ) (bs : List ℕ) (i : ℕ) → i ≤ length bs → b ≡ 99 → IsText (take i bs)
+    → ctext_len (b ∷ bs) ≡ Some (suc i)
 unfolding ctext_len
 ctext_only b bs i l e s =
-    ap (λ (c : ℕ). cond (eqb c 99) (option_map (λ n. suc n) (text_len bs)) None) e ∙ ap (option_map (λ n. suc n)) (text_only bs i l s)
+    ap (λ (c : ℕ). cond (eqb c 99) (option_map (λ n. suc n) (text_len bs)) None) e
+    ∙ ap (option_map (λ n. suc n)) (text_only bs i l s)
 
 -- the first n bytes behind a c are a text
 pub record CTexted (b : ℕ) (bs : List ℕ) (n : ℕ) : Type 0 where
@@ -130,7 +138,8 @@ pub record CTexted (b : ℕ) (bs : List ℕ) (n : ℕ) : Type 0 where
   pub found : text_len bs ≡ Some len
   pub one_more : suc len ≡ n
 
-ctext_by : (b : ℕ) (bs : List ℕ) (n : ℕ) (t : Bool) → eqb b 99 ≡ t → cond t (option_map (λ n. suc n) (text_len bs)) None ≡ Some n → CTexted b bs n
+ctext_by : (b : ℕ) (bs : List ℕ) (n : ℕ) (t : Bool) → eqb b 99 ≡ t
+    → cond t (option_map (λ n. suc n) (text_len bs)) None ≡ Some n → CTexted b bs n
 ctext_by b bs n false e h = absurd cc
 ctext_by b bs n true e h =
     let p = option_more (text_len bs) n h in
@@ -140,6 +149,8 @@ pub ctext_is : (b : ℕ) (bs : List ℕ) (n : ℕ) → ctext_len (b ∷ bs) ≡ 
 unfolding ctext_len
 ctext_is b bs n h = ctext_by b bs n (eqb b 99) refl h
 
-pub text_here : (b : ℕ) (bs : List ℕ) (n : ℕ) → class_of b ≡ Quote → closed_len bs ≡ Some n → text_len (b ∷ bs) ≡ Some (suc n)
+pub text_here : (b : ℕ) (bs : List ℕ) (n : ℕ) → class_of b ≡ Quote → closed_len bs ≡ Some n
+    → text_len (b ∷ bs) ≡ Some (suc n)
 unfolding text_len
-text_here b bs n c h = ap (λ k. cond (is_quote k) (option_map (λ n. suc n) (closed_len bs)) None) c ∙ ap (option_map (λ n. suc n)) h
+text_here b bs n c h =
+    ap (λ k. cond (is_quote k) (option_map (λ n. suc n) (closed_len bs)) None) c ∙ ap (option_map (λ n. suc n)) h

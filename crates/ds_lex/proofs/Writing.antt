@@ -1,5 +1,6 @@
 -- The digits that the library writes of a number are read as that number.
-use Rattle.std.proofs.Common.{◌≡◌, ℕ, ◌+◌, ◌-◌, ◌*◌, ◌%◌, ◌^◌, ◌<◌, ◌≤◌, Bool, true, false, ◌&&◌, cond, ltb, leb, eqb, List, [], ◌∷◌, length, Some, None, refl, ◌∙◌, ap, arith}
+use Rattle.std.proofs.Common.{◌≡◌, ℕ, ◌+◌, ◌-◌, ◌*◌, ◌%◌, ◌^◌, ◌<◌, ◌≤◌, Bool, true, false, ◌&&◌, cond, ltb, leb, eqb}
+use Rattle.std.proofs.Common.{List, [], ◌∷◌, length, Some, None, refl, ◌∙◌, ap, arith}
 use Rattle.std.proofs.lemmas.Bool.Decides.{nat_tests}
 use Rattle.std.specs.Prelude.{option_and_then}
 use Rattle.std.specs.Fmt as fmt
@@ -47,7 +48,8 @@ decimal_digits n h =
 pub decimal_value : (n : ℕ) → n < 10 ^ 64 → decimal 0 (fmt.decimal n) ≡ n
 decimal_value n h = let p = decimal_is_IsNumeral_wide n h in model.same (fmt.decimal n) p.0.1 ∙ p.1
 
-extended_by : (all : Bool) (v n : ℕ) → all ≡ true → v ≡ n → n < 2 ^ 64 → cond (all && ltb v (2 ^ 64)) (Some v) None ≡ Some n
+extended_by : (all : Bool) (v n : ℕ) → all ≡ true → v ≡ n → n < 2 ^ 64
+    → cond (all && ltb v (2 ^ 64)) (Some v) None ≡ Some n
 extended_by true v n a e l = ap (λ (x : ℕ). cond (ltb x (2 ^ 64)) (Some x) None) e ∙ grind (arith, nat_tests)
 extended_by false v n a e l = absurd cc
 
@@ -73,7 +75,8 @@ negative n p l =
     let h : leb n (2 ^ 63) ≡ true = grind (arith, nat_tests) in
     ap (λ t. cond t (Some ((2 ^ 64 - n) % 2 ^ 64)) None) h ∙ ap (λ (x : ℕ). Some x) e
 
-signed_number : (ds : List ℕ) (n : ℕ) → magnitude_of ds ≡ Some n → 0 < n → n ≤ 2 ^ 63 → number_of (45 ∷ ds) ≡ Some (2 ^ 64 - n)
+signed_number : (ds : List ℕ) (n : ℕ) → magnitude_of ds ≡ Some n → 0 < n → n ≤ 2 ^ 63
+    → number_of (45 ∷ ds) ≡ Some (2 ^ 64 - n)
 unfolding number_of
 signed_number ds n e p l = ap (option_and_then negated) e ∙ negative n p l
 

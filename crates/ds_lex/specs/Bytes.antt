@@ -1,7 +1,9 @@
--- The bytes of a text and what they may be part of. A byte above 127 stands in no token but a text, and may stand in a comment.
+-- The bytes of a text and what they may be part of. A byte above 127 stands in no token but a text, and may stand in
+-- a comment.
 use Rattle.std.specs.Prelude.{ℕ, Bool, true, false, not, ◌||◌, ◌&&◌, ◌==◌, nat_le, if◌then◌else◌}
 use Rattle.ds_lex.specs.declared.bytes.ByteClass.{ByteClass}
-use Rattle.ds_lex.specs.declared.bytes.ByteClass.TheVariants.{Blank, Semicolon, Percent, At, Hash, Bang, Quote, Minus, Digit, Letter, Mark, Other}
+use Rattle.ds_lex.specs.declared.bytes.ByteClass.TheVariants.{Blank, Semicolon, Percent, At, Hash, Bang, Quote, Minus}
+use Rattle.ds_lex.specs.declared.bytes.ByteClass.TheVariants.{Digit, Letter, Mark, Other}
 use Rattle.ds_lex.specs.declared.bytes.RunOf.{RunOf}
 use Rattle.ds_lex.specs.declared.bytes.RunOf.TheVariants.{NameBytes, Digits, TextBytes}
 

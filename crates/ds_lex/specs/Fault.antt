@@ -22,19 +22,23 @@ Begins class (b ∷ bs) = class_of b ≡ class
 abbrev pub IsNoToken : List ℕ → TokenKind → ℕ → Type 0
 IsNoToken bytes kind n = (IsWhole kind (drop n bytes) → ⊥) ⊎ (IsInRange kind (take n bytes) → ⊥)
 
--- The fault of a text at `start`, where a token should begin: a byte that begins none; a %, an @ or a # with no name behind it; a quote
--- that no other follows, whose fault is told at the length of the whole text; or what is spelled there is a number or a name in digits and no token.
+-- The fault of a text at `start`, where a token should begin: a byte that begins none; a %, an @ or a # with no name
+-- behind it; a quote that no other follows, whose fault is told at the length of the whole text; or what is spelled
+-- there is a number or a name in digits and no token.
 abbrev pub IsFaultAt : List ℕ → ℕ → LexFault → Type 0
 IsFaultAt text start (BadByte at) =
     (at ≡ start) × BeginsNone (drop start text) × (Begins Minus (drop start text) ⊎ Begins Other (drop start text))
 IsFaultAt text start (BadName at) =
-    (at ≡ start) × BeginsNone (drop start text) × (Begins Percent (drop start text) ⊎ (Begins At (drop start text) ⊎ Begins Hash (drop start text)))
+    (at ≡ start) × BeginsNone (drop start text) ×
+    (Begins Percent (drop start text) ⊎ (Begins At (drop start text) ⊎ Begins Hash (drop start text)))
 IsFaultAt text start (OpenText at) = (at ≡ length text) × BeginsNone (drop start text) × Begins Quote (drop start text)
 IsFaultAt text start (BadNumber at) =
-    (at ≡ start) × (kind : TokenKind) × (n : ℕ) × (0 < n) × IsLongest (drop start text) kind n × IsNoToken (drop start text) kind n
+    (at ≡ start) × (kind : TokenKind) × (n : ℕ) × (0 < n) × IsLongest (drop start text) kind n
+    × IsNoToken (drop start text) kind n
 IsFaultAt text start Memory = ⊥
 
--- The first fault behind `at` bytes of the text, where these tokens stand before it. There is none behind it: it ends the text's tokens.
+-- The first fault behind `at` bytes of the text, where these tokens stand before it. There is none behind it: it ends
+-- the text's tokens.
 abbrev pub FaultFrom : List ℕ → ℕ → List Token → LexFault → Type 0
 FaultFrom text at [] fault = (start : ℕ) × IsGap text at start × IsFaultAt text start fault
 FaultFrom text at (t ∷ ts) fault = IsTokenAt text at t × (is_end t.kind ≡ false) × FaultFrom text t.end ts fault

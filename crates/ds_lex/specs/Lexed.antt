@@ -1,17 +1,21 @@
 -- The tokens of a text.
-use Rattle.std.specs.Prelude.{◌≡◌, ℕ, ◌-◌, ◌<◌, ◌≤◌, ◌^◌, Bool, true, false, not, ◌==◌, ◌⊎◌, List, [], ◌∷◌, ◌++◌, length, take, drop, slice_range, IsTrue, IsFalse, IsSome, MatchBool}
+use Rattle.std.specs.Prelude.{◌≡◌, ℕ, ◌-◌, ◌<◌, ◌≤◌, ◌^◌, Bool, true, false, not, ◌==◌, ◌⊎◌, List, [], ◌∷◌, ◌++◌}
+use Rattle.std.specs.Prelude.{length, take, drop, slice_range, IsTrue, IsFalse, IsSome, MatchBool}
 use Rattle.std.specs.List.{list_all}
 use Rattle.ds_lex.specs.declared.bytes.ByteClass.{ByteClass}
-use Rattle.ds_lex.specs.declared.bytes.ByteClass.TheVariants.{Blank, Semicolon, Percent, At, Hash, Bang, Quote, Minus, Letter, Mark}
+use Rattle.ds_lex.specs.declared.bytes.ByteClass.TheVariants.{Blank, Semicolon, Percent, At, Hash, Bang, Quote, Minus}
+use Rattle.ds_lex.specs.declared.bytes.ByteClass.TheVariants.{Letter, Mark}
 use Rattle.ds_lex.specs.declared.bytes.RunOf.TheVariants.{NameBytes, Digits, TextBytes}
 use Rattle.ds_lex.specs.declared.token.TokenKind.{TokenKind}
-use Rattle.ds_lex.specs.declared.token.TokenKind.TheVariants.{Word, Label, Local, Global, Attr, Meta, Number, Text, CText, Punct, End}
+use Rattle.ds_lex.specs.declared.token.TokenKind.TheVariants.{Word, Label, Local, Global, Attr, Meta, Number, Text}
+use Rattle.ds_lex.specs.declared.token.TokenKind.TheVariants.{CText, Punct, End}
 use Rattle.ds_lex.specs.declared.token.Token.{Token}
 use Rattle.ds_lex.specs.Bytes.{class_of, begins_name, belongs}
 use Rattle.ds_lex.specs.Number.{decimal, number_of}
 
 -- Between tokens stand blanks and comments. A comment runs from a semicolon to a line feed (10), or to the end of the
--- text. IsGapFrom inside gap rest: the bytes of gap stand before a token, rest follows them, and a comment is open before them.
+-- text. IsGapFrom inside gap rest: the bytes of gap stand before a token, rest follows them, and a comment is open
+-- before them.
 abbrev pub IsGapFrom : Bool → List ℕ → List ℕ → Type 0
 IsGapFrom false [] rest = Unit {0}
 IsGapFrom true [] rest = rest ≡ []
@@ -68,8 +72,8 @@ IsLabel bytes = (name : List ℕ) × (bytes ≡ name ++ 58 ∷ []) × (IsWord na
 abbrev pub IsInteger : List ℕ → Type 0
 IsInteger bytes = IsDigits bytes ⊎ IsBehind Minus IsDigits bytes
 
--- The spellings of each kind of token, without their ranges, which IsInRange has. Which spelling is the longest is judged without ranges too:
--- 4294967296: is a label whose name is too large, and no number.
+-- The spellings of each kind of token, without their ranges, which IsInRange has. Which spelling is the longest is
+-- judged without ranges too: 4294967296: is a label whose name is too large, and no number.
 abbrev pub IsSpelling : TokenKind → List ℕ → Type 0
 IsSpelling Word bytes = IsWord bytes
 IsSpelling Label bytes = IsLabel bytes
@@ -112,7 +116,8 @@ IsWhole Punct rest = Unit {0}
 abbrev pub IsNameInRange : List ℕ → Type 0
 IsNameInRange name = IsDigits name → decimal 0 name < 2 ^ 32
 
--- A number lies from -2 ^ 63 to 2 ^ 64 - 1; the name of a label stands before its colon, that of a local or a global behind its first byte.
+-- A number lies from -2 ^ 63 to 2 ^ 64 - 1; the name of a label stands before its colon, that of a local or a global
+-- behind its first byte.
 abbrev pub IsInRange : TokenKind → List ℕ → Type 0
 IsInRange Number bytes = IsSome (number_of bytes)
 IsInRange Label bytes = (name : List ℕ) → bytes ≡ name ++ 58 ∷ [] → IsNameInRange name

@@ -1,11 +1,14 @@
 -- What the scanner finds at the front of bytes, which its private functions give. What a token is says Lexed.
-use Rattle.std.specs.Prelude.{ℕ, Bool, true, false, not, ◌==◌, ◌&&◌, nat_lt, if◌then◌else◌, List, [], ◌∷◌, length, take, drop, Option, Some, None, option_map, is_some, Result, Ok, Err}
+use Rattle.std.specs.Prelude.{ℕ, Bool, true, false, not, ◌==◌, ◌&&◌, nat_lt, if◌then◌else◌, List, [], ◌∷◌, length}
+use Rattle.std.specs.Prelude.{take, drop, Option, Some, None, option_map, is_some, Result, Ok, Err}
 use Rattle.ds_lex.specs.declared.bytes.ByteClass.{ByteClass}
-use Rattle.ds_lex.specs.declared.bytes.ByteClass.TheVariants.{Blank, Semicolon, Percent, At, Hash, Bang, Quote, Minus, Digit, Letter, Mark, Other}
+use Rattle.ds_lex.specs.declared.bytes.ByteClass.TheVariants.{Blank, Semicolon, Percent, At, Hash, Bang, Quote, Minus}
+use Rattle.ds_lex.specs.declared.bytes.ByteClass.TheVariants.{Digit, Letter, Mark, Other}
 use Rattle.ds_lex.specs.declared.bytes.RunOf.{RunOf}
 use Rattle.ds_lex.specs.declared.bytes.RunOf.TheVariants.{NameBytes, Digits, TextBytes}
 use Rattle.ds_lex.specs.declared.token.TokenKind.{TokenKind}
-use Rattle.ds_lex.specs.declared.token.TokenKind.TheVariants.{Word, Label, Local, Global, Attr, Meta, Number, Text, CText, Punct, End}
+use Rattle.ds_lex.specs.declared.token.TokenKind.TheVariants.{Word, Label, Local, Global, Attr, Meta, Number, Text}
+use Rattle.ds_lex.specs.declared.token.TokenKind.TheVariants.{CText, Punct, End}
 use Rattle.ds_lex.specs.declared.fault.LexFault.{LexFault}
 use Rattle.ds_lex.specs.declared.fault.LexFault.TheVariants.{BadByte, BadName, BadNumber, OpenText}
 use Rattle.ds_lex.specs.declared.words.Flaw.{Flaw}
@@ -77,7 +80,8 @@ Scanned = Result (TokenKind × ℕ) Flaw
 
 -- how many bytes stand up to and with the first quote
 unfoldable pub closed_len : List ℕ → Option ℕ
-closed_len bytes = if nat_lt (run_len TextBytes bytes) (length bytes) then Some (suc (run_len TextBytes bytes)) else None
+closed_len bytes =
+    if nat_lt (run_len TextBytes bytes) (length bytes) then Some (suc (run_len TextBytes bytes)) else None
 
 -- how many bytes the text at the front has
 unfoldable pub text_len : List ℕ → Option ℕ
@@ -113,7 +117,8 @@ quoted bytes = quoted_by (text_len bytes) bytes
 
 -- a number of n bytes, where no byte goes on it and it is in its range
 unfoldable pub integer : ℕ → List ℕ → Scanned
-integer n bytes = if not (goes_on (drop n bytes)) && is_some (number_of (take n bytes)) then Ok (Number, n) else Err flaw.Number
+integer n bytes =
+    if not (goes_on (drop n bytes)) && is_some (number_of (take n bytes)) then Ok (Number, n) else Err flaw.Number
 
 -- a token of n bytes with a name in digits, where that is below 2 ^ 32
 unfoldable pub numbered : TokenKind → ℕ → List ℕ → Scanned
@@ -147,7 +152,8 @@ unplain kind n bytes = if n == 0 then named_by kind (text_len bytes) else number
 
 -- the token of this kind that the bytes behind a % or an @ make with it
 unfoldable pub named : TokenKind → List ℕ → Scanned
-named kind bytes = if starts_name bytes then Ok (kind, suc (run_len NameBytes bytes)) else unplain kind (run_len Digits bytes) bytes
+named kind bytes =
+    if starts_name bytes then Ok (kind, suc (run_len NameBytes bytes)) else unplain kind (run_len Digits bytes) bytes
 
 -- the token that n digits behind a # make with it
 abbrev pub attribute_by : ℕ → Scanned

@@ -1,9 +1,11 @@
 -- Texts that are written token by token, with blanks between them.
-use Rattle.std.specs.Prelude.{◌≡◌, ℕ, ◌+◌, ◌-◌, ◌<◌, ◌≤◌, ◌^◌, Bool, true, ◌||◌, List, [], ◌∷◌, ◌++◌, length, map, Some, IsTrue}
+use Rattle.std.specs.Prelude.{◌≡◌, ℕ, ◌+◌, ◌-◌, ◌<◌, ◌≤◌, ◌^◌, Bool, true, ◌||◌, List, [], ◌∷◌, ◌++◌, length, map}
+use Rattle.std.specs.Prelude.{Some, IsTrue}
 use Rattle.std.specs.Fmt as fmt
 use Rattle.std.specs.List.{list_all}
 use Rattle.ds_lex.specs.declared.token.TokenKind.{TokenKind}
-use Rattle.ds_lex.specs.declared.token.TokenKind.TheVariants.{Word, Label, Local, Global, Attr, Meta, Number, Text, CText, Punct, End}
+use Rattle.ds_lex.specs.declared.token.TokenKind.TheVariants.{Word, Label, Local, Global, Attr, Meta, Number, Text}
+use Rattle.ds_lex.specs.declared.token.TokenKind.TheVariants.{CText, Punct, End}
 use Rattle.ds_lex.specs.declared.token.Token.{Token}
 use Rattle.ds_lex.specs.Bytes.{is_blank, is_mark}
 use Rattle.ds_lex.specs.Number.{decimal, number_of}
@@ -28,7 +30,8 @@ written (p ∷ ps) = piece_bytes p ++ written ps
 abbrev pub tokens_of : ℕ → List Piece → List Token
 tokens_of at [] = (record { kind = End; start = at; end = at }) ∷ []
 tokens_of at (Gap bytes ∷ ps) = tokens_of (at + length bytes) ps
-tokens_of at (Written kind bytes ∷ ps) = (record { kind = kind; start = at; end = at + length bytes }) ∷ tokens_of (at + length bytes) ps
+tokens_of at (Written kind bytes ∷ ps) =
+    (record { kind = kind; start = at; end = at + length bytes }) ∷ tokens_of (at + length bytes) ps
 
 -- no token goes on with these bytes: nothing stands there, or a blank, a bracket, or one of , = * < >
 abbrev pub ends_tokens : List ℕ → Bool
@@ -53,7 +56,8 @@ EndsBefore End rest = ⊥
 abbrev pub AreApart : List Piece → Type 0
 AreApart [] = Unit {0}
 AreApart (Gap bytes ∷ ps) = IsTrue (list_all is_blank bytes) × AreApart ps
-AreApart (Written kind bytes ∷ ps) = IsSpelling kind bytes × IsInRange kind bytes × EndsBefore kind (written ps) × AreApart ps
+AreApart (Written kind bytes ∷ ps) =
+    IsSpelling kind bytes × IsInRange kind bytes × EndsBefore kind (written ps) × AreApart ps
 
 -- the kind, the bytes and the place of each token that is written behind so many bytes, and of the end of the text
 abbrev pub spelled_from : ℕ → List Piece → List (TokenKind × List ℕ × ℕ)
@@ -67,9 +71,11 @@ WrittenIsLexed = (ps : List Piece) → AreApart ps → Lexed (written ps) (token
 
 -- the spelling of each is what was written
 abbrev pub WrittenIsSpelled : Type 0
-WrittenIsSpelled = (ps : List Piece) → map (λ t. (t.kind, spelling (written ps) t, t.start)) (tokens_of 0 ps) ≡ spelled_from 0 ps
+WrittenIsSpelled =
+    (ps : List Piece) → map (λ t. (t.kind, spelling (written ps) t, t.start)) (tokens_of 0 ps) ≡ spelled_from 0 ps
 
--- a number of at most 64 digits, which are as many as the library writes, is read as it is written in decimal: digits alone, with this value
+-- a number of at most 64 digits, which are as many as the library writes, is read as it is written in decimal: digits
+-- alone, with this value
 abbrev pub DecimalsAreDigits : Type 0
 DecimalsAreDigits = (n : ℕ) → n < 10 ^ 64 → IsDigits (fmt.decimal n) × (decimal 0 (fmt.decimal n) ≡ n)
 

@@ -13,8 +13,8 @@ use std::alloc::Global;
 
 /// The tokens of a text of at most 8,388,608 bytes. Blanks and comments may stand before each token.
 ///
-/// A text has tokens or one lexical fault, which `LexFault` lists: that of the first place at which a token should begin
-/// and none does. `Memory` comes where there is not enough memory for the list.
+/// A text has tokens or one lexical fault, which `LexFault` lists: that of the first place at which a token should
+/// begin and none does. `Memory` comes where there is not enough memory for the list.
 pub fn lex(alloc: Global, text: &[u8]) -> Result<Tokens, LexFault>
     requires { length text.now ≤ 8388608 }
     ensures tokens { IfOk result (λ tokens. Lexed text.now tokens) }
@@ -97,7 +97,8 @@ fn comment_behind(in_comment: bool, byte: u8) -> Option<bool>
     }
 }
 
-/// No text has both tokens and a lexical fault: a caller calls this function, which does nothing, and uses what it ensures.
+/// No text has both tokens and a lexical fault: a caller calls this function, which does nothing, and uses what it
+/// ensures.
 pub fn tokens_or_fault()
     ensures { TokensOrFault }
 {}

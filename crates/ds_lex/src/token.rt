@@ -3,7 +3,8 @@ ghost use Rattle.std.specs.Prelude.{◌≡◌};
 
 use std::marker::Model;
 
-/// What a token is. A *name* is a letter (`A` to `Z`, `a` to `z`, `$`, `.` or `_`) or a `-`, and then any number of letters,
+/// What a token is. A *name* is a letter (`A` to `Z`, `a` to `z`, `$`, `.` or `_`) or a `-`, and then any number of
+/// letters,
 /// `-` and digits; a *text* is a `"`, bytes other than `"`, and a `"`.
 #[derive(Clone, Copy, Debug, PartialEq, Eq)]
 pub enum TokenKind {

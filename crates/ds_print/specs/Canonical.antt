@@ -9,7 +9,8 @@ use Rattle.ds_ast.specs.declared.value.Value.{Value}
 use Rattle.ds_ast.specs.declared.operand.Operand.{Operand}
 use Rattle.ds_ast.specs.declared.operand.Arm.{Arm}
 use Rattle.ds_ast.specs.declared.words.BinOp.{BinOp}
-use Rattle.ds_ast.specs.declared.words.BinOp.TheVariants.{Add, Sub, Mul, And, Or, Xor, Shl, Lshr, Ashr, Udiv, Sdiv, Urem, Srem}
+use Rattle.ds_ast.specs.declared.words.BinOp.TheVariants.{Add, Sub, Mul, And, Or, Xor, Shl, Lshr, Ashr, Udiv, Sdiv}
+use Rattle.ds_ast.specs.declared.words.BinOp.TheVariants.{Urem, Srem}
 use Rattle.ds_ast.specs.declared.words.CastOp.{CastOp}
 use Rattle.ds_ast.specs.declared.words.CastOp.TheVariants.{Zext, Sext, Trunc, PtrToInt, IntToPtr}
 use Rattle.ds_ast.specs.declared.words.Cond.{Cond}
@@ -17,7 +18,9 @@ use Rattle.ds_ast.specs.declared.words.Cond.TheVariants.{Eq, Ne, Ugt, Uge, Ult, 
 use Rattle.ds_ast.specs.declared.words.RmwOp.{RmwOp}
 use Rattle.ds_ast.specs.declared.words.RmwOp.TheVariants as rmw
 use Rattle.ds_ast.specs.declared.instr.Op.{Op}
-use Rattle.ds_ast.specs.declared.instr.Op.TheVariants.{Bin, Icmp, Select, Cast, Alloca, Load, Store, Gep, Call, Phi, Rmw, Cmpxchg, Extract, Fence, Ret, Br, CondBr, Switch, Unreachable}
+use Rattle.ds_ast.specs.declared.instr.Op.TheVariants.{Bin, Icmp, Select, Cast, Alloca, Load, Store, Gep, Call, Phi}
+use Rattle.ds_ast.specs.declared.instr.Op.TheVariants.{Rmw, Cmpxchg, Extract, Fence, Ret, Br, CondBr, Switch}
+use Rattle.ds_ast.specs.declared.instr.Op.TheVariants.{Unreachable}
 use Rattle.ds_ast.specs.declared.instr.Instr.{Instr}
 use Rattle.ds_ast.specs.declared.init.Init.{Init, Zero, Word, Array', Fields', Row_of-Init, end_of-Init, more_of-Init}
 use Rattle.ds_ast.specs.declared.module.Module.{Module}
@@ -27,7 +30,8 @@ use Rattle.ds_ast.specs.declared.module.Function.{Function}
 use Rattle.ds_ast.specs.declared.module.Param.{Param}
 use Rattle.ds_ast.specs.declared.module.Block.{Block}
 use Rattle.ds_ast.specs.Bounds.{element_type, field_types}
-use Rattle.ds_print.specs.Names.{space, line_end, indent, spelled, word, punct, local, global, label, number, integer, scalar, value}
+use Rattle.ds_print.specs.Names.{space, line_end, indent, spelled, word, punct, local, global, label, number, integer}
+use Rattle.ds_print.specs.Names.{scalar, value}
 
 -- LISTS
 
@@ -51,13 +55,15 @@ listed_behind_space (item ∷ items) = space ∷ item ++ more_listed items
 abbrev pub type_pieces : Ty → List Piece
 type_pieces Void = word "void" ∷ []
 type_pieces (One s) = scalar s ∷ []
-type_pieces (Array' n _ (more_of-Ty of end_of-Ty)) = punct "[" ∷ number n ∷ space ∷ word "x" ∷ space ∷ type_pieces of ++ punct "]" ∷ []
+type_pieces (Array' n _ (more_of-Ty of end_of-Ty)) =
+    punct "[" ∷ number n ∷ space ∷ word "x" ∷ space ∷ type_pieces of ++ punct "]" ∷ []
 type_pieces (Struct name) = local name ∷ []
 
 -- L = type { T, T }
 abbrev pub struct_pieces : StructDef → List Piece
 struct_pieces s =
-    local s.name ∷ space ∷ punct "=" ∷ space ∷ word "type" ∷ space ∷ punct "{" ∷ listed_behind_space (map type_pieces s.fields)
+    local s.name ∷ space ∷ punct "=" ∷ space ∷ word "type" ∷ space ∷ punct "{" ∷ listed_behind_space
+    (map type_pieces s.fields)
     ++ space ∷ punct "}" ∷ line_end ∷ []
 
 -- GLOBALS
@@ -98,31 +104,37 @@ module _ (structs : List StructDef) where
     init_pieces t Zero = word "zeroinitializer" ∷ []
     init_pieces t (Word v) = value (literal_type t) v ∷ []
     init_pieces t (Array' _ parts) = punct "[" ∷ elements (element_type t) parts ++ space ∷ punct "]" ∷ []
-    init_pieces t (Fields' _ parts) = punct "{" ∷ fields (or_none (field_types structs t)) parts ++ space ∷ punct "}" ∷ []
+    init_pieces t (Fields' _ parts) =
+        punct "{" ∷ fields (or_none (field_types structs t)) parts ++ space ∷ punct "}" ∷ []
 
     -- elements of one type
     pub elements : Option Ty → {m : _} → Row_of-Init m → List Piece
     elements t end_of-Init = []
-    elements t (more_of-Init part parts) = space ∷ element_front t ++ init_pieces (or_void t) part ++ more_elements t parts
+    elements t (more_of-Init part parts) =
+        space ∷ element_front t ++ init_pieces (or_void t) part ++ more_elements t parts
 
     pub more_elements : Option Ty → {m : _} → Row_of-Init m → List Piece
     more_elements t end_of-Init = []
-    more_elements t (more_of-Init part parts) = punct "," ∷ space ∷ element_front t ++ init_pieces (or_void t) part ++ more_elements t parts
+    more_elements t (more_of-Init part parts) =
+        punct "," ∷ space ∷ element_front t ++ init_pieces (or_void t) part ++ more_elements t parts
 
     -- fields, each of the type at its place
     pub fields : List Ty → {m : _} → Row_of-Init m → List Piece
     fields ts end_of-Init = []
-    fields ts (more_of-Init part parts) = space ∷ element_front (first_type ts) ++ init_pieces (or_void (first_type ts)) part ++ more_fields (more_types ts) parts
+    fields ts (more_of-Init part parts) = space ∷ element_front (first_type ts)
+        ++ init_pieces (or_void (first_type ts)) part ++ more_fields (more_types ts) parts
 
     pub more_fields : List Ty → {m : _} → Row_of-Init m → List Piece
     more_fields ts end_of-Init = []
     more_fields ts (more_of-Init part parts) =
-        punct "," ∷ space ∷ element_front (first_type ts) ++ init_pieces (or_void (first_type ts)) part ++ more_fields (more_types ts) parts
+        punct "," ∷ space ∷ element_front (first_type ts) ++ init_pieces (or_void (first_type ts)) part
+        ++ more_fields (more_types ts) parts
 
 -- G = global T INIT
 abbrev pub global_pieces : List StructDef → GlobalDef → List Piece
 global_pieces structs g =
-    global g.name ∷ space ∷ punct "=" ∷ space ∷ word "global" ∷ space ∷ type_pieces g.ty ++ space ∷ init_pieces structs g.ty g.init ++ line_end ∷ []
+    global g.name ∷ space ∷ punct "=" ∷ space ∷ word "global" ∷ space ∷ type_pieces g.ty
+    ++ space ∷ init_pieces structs g.ty g.init ++ line_end ∷ []
 
 -- WORDS OF INSTRUCTIONS
 
@@ -203,32 +215,44 @@ returned (Some o) = operand_pieces o
 
 -- INSTRUCTIONS, each without its result
 abbrev pub op_pieces : Op → List Piece
-op_pieces (Bin o s a b) = spelled (bin_op_word o) ∷ space ∷ scalar s ∷ space ∷ value s a ∷ punct "," ∷ space ∷ value s b ∷ []
-op_pieces (Icmp c s a b) = word "icmp" ∷ space ∷ spelled (cond_word c) ∷ space ∷ scalar s ∷ space ∷ value s a ∷ punct "," ∷ space ∷ value s b ∷ []
+op_pieces (Bin o s a b) =
+    spelled (bin_op_word o) ∷ space ∷ scalar s ∷ space ∷ value s a ∷ punct "," ∷ space ∷ value s b ∷ []
+op_pieces (Icmp c s a b) = word "icmp" ∷ space ∷ spelled
+    (cond_word c) ∷ space ∷ scalar s ∷ space ∷ value s a ∷ punct "," ∷ space ∷ value s b ∷ []
 op_pieces (Select c s a b) =
-    word "select" ∷ space ∷ scalar I1 ∷ space ∷ value I1 c ∷ punct "," ∷ space ∷ scalar s ∷ space ∷ value s a ∷ punct "," ∷ space ∷ scalar s ∷ space ∷ value s b ∷ []
-op_pieces (Cast o from a to) = spelled (cast_op_word o) ∷ space ∷ scalar from ∷ space ∷ value from a ∷ space ∷ word "to" ∷ space ∷ scalar to ∷ []
+    word "select" ∷ space ∷ scalar I1 ∷ space ∷ value I1 c ∷ punct "," ∷ space ∷ scalar s ∷ space ∷ value s a ∷ punct
+    "," ∷ space ∷ scalar s ∷ space ∷ value s b ∷ []
+op_pieces (Cast o from a to) =
+    spelled (cast_op_word o) ∷ space ∷ scalar from ∷ space ∷ value from a ∷ space ∷ word "to" ∷ space ∷ scalar to ∷ []
 op_pieces (Alloca t count) = word "alloca" ∷ space ∷ type_pieces t ++ optional_operand count
 op_pieces (Load s at) = word "load" ∷ space ∷ scalar s ∷ punct "," ∷ space ∷ scalar Ptr ∷ space ∷ value Ptr at ∷ []
-op_pieces (Store s v at) = word "store" ∷ space ∷ scalar s ∷ space ∷ value s v ∷ punct "," ∷ space ∷ scalar Ptr ∷ space ∷ value Ptr at ∷ []
+op_pieces (Store s v at) =
+    word "store" ∷ space ∷ scalar s ∷ space ∷ value s v ∷ punct "," ∷ space ∷ scalar Ptr ∷ space ∷ value Ptr at ∷ []
 op_pieces (Gep t base indices) =
-    word "getelementptr" ∷ space ∷ type_pieces t ++ punct "," ∷ space ∷ scalar Ptr ∷ space ∷ value Ptr base ∷ more_listed (map operand_pieces indices)
-op_pieces (Call t callee args) = word "call" ∷ space ∷ type_pieces t ++ space ∷ global callee ∷ punct "(" ∷ listed (map operand_pieces args) ++ punct ")" ∷ []
+    word "getelementptr" ∷ space ∷ type_pieces t ++ punct "," ∷ space ∷ scalar Ptr ∷ space ∷ value Ptr base ∷
+    more_listed (map operand_pieces indices)
+op_pieces (Call t callee args) = word "call" ∷ space ∷ type_pieces t
+    ++ space ∷ global callee ∷ punct "(" ∷ listed (map operand_pieces args) ++ punct ")" ∷ []
 op_pieces (Phi s arms) = word "phi" ∷ space ∷ scalar s ∷ space ∷ listed (map (arm_pieces s) arms)
 op_pieces (Rmw o at s v) =
-    word "atomicrmw" ∷ space ∷ spelled (rmw_op_word o) ∷ space ∷ scalar Ptr ∷ space ∷ value Ptr at ∷ punct "," ∷ space ∷ scalar s ∷ space ∷ value s v
+    word "atomicrmw" ∷ space ∷ spelled (rmw_op_word o) ∷ space ∷ scalar Ptr ∷ space ∷ value Ptr at ∷ punct "," ∷ space
+    ∷ scalar s ∷ space ∷ value s v
     ∷ space ∷ word "seq_cst" ∷ []
 op_pieces (Cmpxchg at s expected new) =
-    word "cmpxchg" ∷ space ∷ scalar Ptr ∷ space ∷ value Ptr at ∷ punct "," ∷ space ∷ scalar s ∷ space ∷ value s expected ∷ punct "," ∷ space ∷ scalar s ∷ space ∷ value s new
+    word "cmpxchg" ∷ space ∷ scalar Ptr ∷ space ∷ value Ptr at ∷ punct "," ∷ space ∷ scalar s ∷ space ∷ value s
+    expected ∷ punct "," ∷ space ∷ scalar s ∷ space ∷ value s new
     ∷ space ∷ word "seq_cst" ∷ space ∷ word "seq_cst" ∷ []
 op_pieces (Extract s of index) =
-    word "extractvalue" ∷ space ∷ punct "{" ∷ space ∷ scalar s ∷ punct "," ∷ space ∷ scalar I1 ∷ space ∷ punct "}" ∷ space ∷ local of ∷ punct "," ∷ space ∷ number index ∷ []
+    word "extractvalue" ∷ space ∷ punct "{" ∷ space ∷ scalar s ∷ punct "," ∷ space ∷ scalar I1 ∷ space ∷ punct "}" ∷
+    space ∷ local of ∷ punct "," ∷ space ∷ number index ∷ []
 op_pieces Fence = word "fence" ∷ space ∷ word "seq_cst" ∷ []
 op_pieces (Ret v) = word "ret" ∷ space ∷ returned v
 op_pieces (Br l) = word "br" ∷ space ∷ target l
-op_pieces (CondBr c yes_ no_) = word "br" ∷ space ∷ typed I1 c ++ punct "," ∷ space ∷ target yes_ ++ punct "," ∷ space ∷ target no_
+op_pieces (CondBr c yes_ no_) =
+    word "br" ∷ space ∷ typed I1 c ++ punct "," ∷ space ∷ target yes_ ++ punct "," ∷ space ∷ target no_
 op_pieces (Switch s v other cases) =
-    word "switch" ∷ space ∷ typed s v ++ punct "," ∷ space ∷ target other ++ space ∷ punct "[" ∷ flat_map (case_pieces s) cases ++ space ∷ punct "]" ∷ []
+    word "switch" ∷ space ∷ typed s v ++ punct "," ∷ space ∷ target other
+    ++ space ∷ punct "[" ∷ flat_map (case_pieces s) cases ++ space ∷ punct "]" ∷ []
 op_pieces Unreachable = word "unreachable" ∷ []
 
 -- the result's name and =, if there is one
@@ -256,13 +280,15 @@ param_type p = scalar p.ty ∷ []
 
 -- T G ( .. ) behind declare or define
 abbrev pub head_pieces : Function → List (List Piece) → List Piece
-head_pieces f params = space ∷ type_pieces f.result ++ space ∷ global f.name ∷ punct "(" ∷ listed params ++ punct ")" ∷ []
+head_pieces f params =
+    space ∷ type_pieces f.result ++ space ∷ global f.name ∷ punct "(" ∷ listed params ++ punct ")" ∷ []
 
 -- a declaration where there are no blocks, and else a definition
 abbrev pub function_by : Function → List Block → List Piece
 function_by f [] = word "declare" ∷ head_pieces f (map param_type f.params) ++ line_end ∷ []
 function_by f (b ∷ bs) =
-    word "define" ∷ head_pieces f (map param_pieces f.params) ++ space ∷ punct "{" ∷ line_end ∷ flat_map block_pieces (b ∷ bs) ++ punct "}" ∷ line_end ∷ []
+    word "define" ∷ head_pieces f (map param_pieces f.params)
+    ++ space ∷ punct "{" ∷ line_end ∷ flat_map block_pieces (b ∷ bs) ++ punct "}" ∷ line_end ∷ []
 
 abbrev pub function_pieces : Function → List Piece
 function_pieces f = function_by f f.blocks
@@ -271,7 +297,8 @@ function_pieces f = function_by f f.blocks
 
 -- struct types, globals and functions, each in the order of the module
 unfoldable pub module_pieces : Module → List Piece
-module_pieces m = flat_map struct_pieces m.structs ++ flat_map (global_pieces m.structs) m.globals ++ flat_map function_pieces m.functions
+module_pieces m = flat_map struct_pieces m.structs ++ flat_map (global_pieces m.structs) m.globals
+    ++ flat_map function_pieces m.functions
 
 -- the canonical text
 unfoldable pub canon : Module → List ℕ

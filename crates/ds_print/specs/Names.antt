@@ -1,9 +1,11 @@
 -- How names, numbers and single words are written in the canonical text.
-use Rattle.std.specs.Prelude.{ℕ, ◌+◌, ◌-◌, ◌^◌, ◌/◌, ◌%◌, Bool, true, false, ◌==◌, nat_lt, nat_le, not, ◌&&◌, if◌then◌else◌, List, [], ◌∷◌, ◌++◌, flat_map, codes, decimal}
+use Rattle.std.specs.Prelude.{ℕ, ◌+◌, ◌-◌, ◌^◌, ◌/◌, ◌%◌, Bool, true, false, ◌==◌, nat_lt, nat_le, not, ◌&&◌}
+use Rattle.std.specs.Prelude.{if◌then◌else◌, List, [], ◌∷◌, ◌++◌, flat_map, codes, decimal}
 use Rattle.std.specs.List.{list_all}
 use Prim.Native.String.{String}
 use Rattle.ds_lex.specs.declared.bytes.ByteClass.{ByteClass}
-use Rattle.ds_lex.specs.declared.bytes.ByteClass.TheVariants.{Blank, Semicolon, Percent, At, Hash, Bang, Quote, Minus, Digit, Letter, Mark, Other}
+use Rattle.ds_lex.specs.declared.bytes.ByteClass.TheVariants.{Blank, Semicolon, Percent, At, Hash, Bang, Quote, Minus}
+use Rattle.ds_lex.specs.declared.bytes.ByteClass.TheVariants.{Digit, Letter, Mark, Other}
 use Rattle.ds_lex.specs.declared.bytes.RunOf.TheVariants.{NameBytes}
 use Rattle.ds_lex.specs.declared.token.TokenKind.TheVariants as kind
 use Rattle.ds_lex.specs.Bytes.{class_of, begins_name, belongs}
@@ -115,7 +117,8 @@ label name = Written kind.Label (label_text name ++ 58 ∷ [])
 abbrev pub number : ℕ → Piece
 number n = Written kind.Number (decimal n)
 
--- A number of so many bits as a signed one: from 2 ^ (bits - 1) on it stands for itself less 2 ^ bits, and a minus sign (45) comes first.
+-- A number of so many bits as a signed one: from 2 ^ (bits - 1) on it stands for itself less 2 ^ bits, and a minus
+-- sign (45) comes first.
 unfoldable pub signed : ℕ → ℕ → List ℕ
 signed bits n = if nat_lt n (2 ^ (bits - 1)) then decimal n else 45 ∷ decimal (2 ^ bits - n)
 

@@ -38,7 +38,8 @@ fn push_cmpxchg(
     expected: &Value,
     new: &Value,
 ) -> Result<(), AllocError>
-    ensures { OnOk result (text.new.items ≡ text.old.items ++ written (op_pieces (Cmpxchg at.now ty expected.now new.now))) }
+    ensures { OnOk result
+        (text.new.items ≡ text.old.items ++ written (op_pieces (Cmpxchg at.now ty expected.now new.now))) }
 {
     push(text, b"cmpxchg ")?;
     push_typed(text, Scalar::Ptr, at)?;

@@ -121,7 +121,8 @@ fn push_switch(
     other: &Name,
     cases: &[(u64, Name)],
 ) -> Result<(), AllocError>
-    ensures { OnOk result (text.new.items ≡ text.old.items ++ written (op_pieces (Switch ty value.now other.now cases.now))) }
+    ensures { OnOk result
+        (text.new.items ≡ text.old.items ++ written (op_pieces (Switch ty value.now other.now cases.now))) }
 {
     push(text, b"switch ")?;
     push_typed(text, ty, value)?;

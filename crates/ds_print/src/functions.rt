@@ -1,7 +1,8 @@
 //! Functions, declared and defined.
 ghost use Rattle.std.specs.Prelude.{◌≡◌, ◌++◌, List, [], ◌∷◌, map, flat_map, OnOk};
 ghost use Rattle.ds_lex.specs.Written.{written, Piece};
-ghost use Rattle.ds_print.specs.Canonical.{block_pieces, function_pieces, listed, param_pieces, param_type, type_pieces};
+ghost use Rattle.ds_print.specs.Canonical.{block_pieces, function_pieces, listed, param_pieces, param_type};
+ghost use Rattle.ds_print.specs.Canonical.{type_pieces};
 ghost use Rattle.ds_print.specs.Parts.{declaration_pieces, definition_pieces};
 ghost use Rattle.ds_print.specs.Names.{global, punct, space};
 
@@ -47,7 +48,9 @@ fn push_param_types(text: &mut Vec<u8>, params: &[Param]) -> Result<(), AllocErr
 
 /// Adds the type of the result, the name, and the bracket in front of the parameters.
 fn push_head(text: &mut Vec<u8>, function: &Function) -> Result<(), AllocError>
-    ensures { OnOk result (text.new.items ≡ text.old.items ++ written (space ∷ type_pieces function.now.result ++ space ∷ global function.now.name ∷ punct "(" ∷ [])) }
+    ensures { OnOk result
+        (text.new.items ≡ text.old.items
+        ++ written (space ∷ type_pieces function.now.result ++ space ∷ global function.now.name ∷ punct "(" ∷ [])) }
 {
     push(text, b" ")?;
     push_type(text, &function.result)?;

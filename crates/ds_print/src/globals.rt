@@ -3,7 +3,8 @@ ghost use Rattle.std.specs.Prelude.{◌≡◌, ◌++◌, flat_map, map, OnOk, Op
 ghost use Rattle.ds_lex.specs.Written.{written};
 ghost use Rattle.ds_ast.specs.Bounds as bounds;
 ghost use Rattle.ds_print.specs.Canonical as spec;
-ghost use Rattle.ds_print.specs.Canonical.{element_front, global_pieces, init_pieces, listed_behind_space, or_none, or_void};
+ghost use Rattle.ds_print.specs.Canonical.{element_front, global_pieces, init_pieces, listed_behind_space, or_none};
+ghost use Rattle.ds_print.specs.Canonical.{or_void};
 ghost use Rattle.ds_print.specs.Parts.{part_pieces, parts_in_order};
 
 use crate::lines::Lines;
@@ -75,7 +76,9 @@ fn push_init<'a>(
     lines: &Lines<'a>,
     ty: Option<&'a Ty>,
 ) -> Result<(), AllocError>
-    ensures { OnOk result (text.new.items ≡ text.old.items ++ written (init_pieces lines.now (or_void (option_copied ty.entry)) init.now)) }
+    ensures { OnOk result
+        (text.new.items ≡ text.old.items
+        ++ written (init_pieces lines.now (or_void (option_copied ty.entry)) init.now)) }
 {
     match init {
         Init::Zero => push(text, b"zeroinitializer"),
@@ -103,7 +106,8 @@ fn push_part<'a>(
     lines: &Lines<'a>,
     ty: Option<&'a Ty>,
 ) -> Result<(), AllocError>
-    ensures { OnOk result (text.new.items ≡ text.old.items ++ written (part_pieces lines.now (option_copied ty.entry) part.now)) }
+    ensures { OnOk result
+        (text.new.items ≡ text.old.items ++ written (part_pieces lines.now (option_copied ty.entry) part.now)) }
 {
     push_front(text, ty)?;
     push_init(text, part, lines, ty)?;
@@ -118,7 +122,9 @@ fn push_elements<'a>(
     lines: &Lines<'a>,
     ty: Option<&'a Ty>,
 ) -> Result<(), AllocError>
-    ensures { OnOk result (text.new.items ≡ text.old.items ++ written (listed_behind_space (map (part_pieces lines.now (option_copied ty.entry)) parts.now))) }
+    ensures { OnOk result
+        (text.new.items ≡ text.old.items
+        ++ written (listed_behind_space (map (part_pieces lines.now (option_copied ty.entry)) parts.now))) }
 {
     for (index, part) in parts.iter().enumerate() {
         push_space(text, index)?;
@@ -135,7 +141,9 @@ fn push_fields<'a>(
     lines: &Lines<'a>,
     types: &'a [Ty],
 ) -> Result<(), AllocError>
-    ensures { OnOk result (text.new.items ≡ text.old.items ++ written (listed_behind_space (parts_in_order lines.now types.now parts.now))) }
+    ensures { OnOk result
+        (text.new.items ≡ text.old.items
+        ++ written (listed_behind_space (parts_in_order lines.now types.now parts.now))) }
 {
     for (index, part) in parts.iter().enumerate() {
         push_space(text, index)?;
@@ -167,7 +175,8 @@ pub fn push_globals<'a>(
     lines: &Lines<'a>,
     globals: &'a [GlobalDef],
 ) -> Result<(), AllocError>
-    ensures { OnOk result (text.new.items ≡ text.old.items ++ written (flat_map (global_pieces lines.now) globals.now)) }
+    ensures { OnOk result
+        (text.new.items ≡ text.old.items ++ written (flat_map (global_pieces lines.now) globals.now)) }
 {
     for global in globals {
         push_global_line(text, lines, global)?;

@@ -19,7 +19,9 @@ struct Fields<'a> {
 impl<'a> Fields<'a> {
     /// Lets a name have these fields.
     fn define(&mut self, name: &'a Name, fields: &'a [Ty]) -> Result<(), AllocError>
-        ensures { OnOk result (fields_in self.new.texts self.new.numbers ≡ with_fields (fields_in self.old.texts self.old.numbers) name.now fields.now) }
+        ensures { OnOk result
+            (fields_in self.new.texts self.new.numbers
+            ≡ with_fields (fields_in self.old.texts self.old.numbers) name.now fields.now) }
     {
         match name {
             Name::Number(number) => {
@@ -71,7 +73,8 @@ impl<'a> Model for Lines<'a> {
 
     ghost view = { λ lines. lines.structs.now };
 
-    ghost invariant = { λ lines. fields_in lines.found.texts lines.found.numbers ≡ bounds.fields_of lines.structs.now };
+    ghost invariant = { λ lines. fields_in lines.found.texts lines.found.numbers
+        ≡ bounds.fields_of lines.structs.now };
 }
 
 impl<'a> Lines<'a> {

@@ -53,7 +53,8 @@ fn push_store(text: &mut Vec<u8>, ty: Scalar, value: &Value, at: &Value) -> Resu
 
 /// Adds operands, each behind a comma and a space.
 fn push_more_operands(text: &mut Vec<u8>, operands: &[Operand]) -> Result<(), AllocError>
-    ensures { OnOk result (text.new.items ≡ text.old.items ++ written (more_listed (map operand_pieces operands.now))) }
+    ensures { OnOk result
+        (text.new.items ≡ text.old.items ++ written (more_listed (map operand_pieces operands.now))) }
 {
     for operand in operands {
         push(text, b", ")?;

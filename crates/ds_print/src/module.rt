@@ -9,8 +9,8 @@ use crate::structs::push_structs;
 use ds_ast::{Bytes, Module};
 use std::alloc::{AllocError, Global};
 
-/// The canonical text of a module: struct types, then globals, then functions, each in the order of the module. Every line ends
-/// with a line feed. An `Err` comes only where there is not enough memory.
+/// The canonical text of a module: struct types, then globals, then functions, each in the order of the module. Every
+/// line ends with a line feed. An `Err` comes only where there is not enough memory.
 #[tactic(auto, unfolding(crate::specs::Canonical::canon, crate::specs::Canonical::module_pieces))]
 pub fn print(alloc: Global, module: &Module) -> Result<Bytes, AllocError>
     ensures { IfOk result (λ text. text ≡ canon «module».now) }

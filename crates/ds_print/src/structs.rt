@@ -11,7 +11,8 @@ use std::alloc::AllocError;
 
 /// Adds the types of fields, with commas between them, behind a space.
 fn push_fields(text: &mut Vec<u8>, fields: &[Ty]) -> Result<(), AllocError>
-    ensures { OnOk result (text.new.items ≡ text.old.items ++ written (listed_behind_space (map type_pieces fields.now))) }
+    ensures { OnOk result
+        (text.new.items ≡ text.old.items ++ written (listed_behind_space (map type_pieces fields.now))) }
 {
     for (index, field) in fields.iter().enumerate() {
         push_space(text, index)?;

@@ -33,7 +33,8 @@ pub fn push_comma(text: &mut Vec<u8>, index: usize) -> Result<(), AllocError>
     }
 }
 
-/// Adds what stands before the item with this index of a list in brackets: a space, behind a comma before all but the first.
+/// Adds what stands before the item with this index of a list in brackets: a space, behind a comma before all but the
+/// first.
 pub fn push_space(text: &mut Vec<u8>, index: usize) -> Result<(), AllocError>
     ensures { OnOk result (text.new.items ≡ text.old.items ++ written (space_before index)) }
 {

@@ -112,7 +112,8 @@ pub fn push_typed(text: &mut Vec<u8>, ty: Scalar, value: &Value) -> Result<(), A
 
 /// Adds a value behind a comma and a space.
 pub fn push_more_value(text: &mut Vec<u8>, ty: Scalar, value: &Value) -> Result<(), AllocError>
-    ensures { OnOk result (text.new.items ≡ text.old.items ++ written (punct "," ∷ space ∷ spec.value ty value.now ∷ [])) }
+    ensures { OnOk result
+        (text.new.items ≡ text.old.items ++ written (punct "," ∷ space ∷ spec.value ty value.now ∷ [])) }
 {
     push(text, b", ")?;
     push_value(text, ty, value)

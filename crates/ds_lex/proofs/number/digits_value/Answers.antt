@@ -25,4 +25,5 @@ loop-byte-preserved c =
 pub returns : goal.returns
 returns c =
     sym (extended_nil c.loop-byte.value c.loop-byte.invariant.fits)
-    ∙ sym (at_drop_all (extended c.loop-byte.value) c.args.digits.now c.loop-byte.byte-index (omega arith)) ∙ c.loop-byte.invariant.same
+    ∙ sym (at_drop_all (extended c.loop-byte.value) c.args.digits.now c.loop-byte.byte-index (omega arith))
+    ∙ c.loop-byte.invariant.same

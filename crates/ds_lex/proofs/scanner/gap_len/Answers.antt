@@ -8,14 +8,16 @@ pub returns-in-None-clause-len : goal.returns-in-None-clause-len
 returns-in-None-clause-len c =
     let bs = c.args.bytes.now in
     let i = c.loop-i.i in
-    let e = at_drop_more (gap_len c.loop-i.in_comment) bs i 0 (omega arith) ∙ gap_none _ (get_or bs i 0) (drop (i + 1) bs) (sym c.in-None.ensures) in
+    let e = at_drop_more (gap_len c.loop-i.in_comment) bs i 0 (omega arith)
+    ∙ gap_none _ (get_or bs i 0) (drop (i + 1) bs) (sym c.in-None.ensures) in
     omega (arith, e, c.loop-i.invariant)
 
 pub loop-i-preserved : goal.loop-i-preserved
 loop-i-preserved c =
     let bs = c.args.bytes.now in
     let i = c.loop-i.i in
-    let e = at_drop_more (gap_len c.loop-i.in_comment) bs i 0 (omega arith) ∙ gap_some _ (get_or bs i 0) (drop (i + 1) bs) _ (sym c.in-Some.ensures) in
+    let e = at_drop_more (gap_len c.loop-i.in_comment) bs i 0 (omega arith)
+    ∙ gap_some _ (get_or bs i 0) (drop (i + 1) bs) _ (sym c.in-Some.ensures) in
     omega (arith, e, c.loop-i.invariant)
 
 pub returns-clause-len : goal.returns-clause-len

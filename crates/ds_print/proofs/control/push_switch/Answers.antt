@@ -14,5 +14,7 @@ returns c =
     let six = then _ _ _ (space ∷ punct "[" ∷ []) (cases ++ close) c.in_ok-push-3.ensures seven in
     let five = then _ _ _ (target c.args.other.now) open_ c.in_ok-push_target.ensures six in
     let four = then _ _ _ (punct "," ∷ space ∷ []) other c.in_ok-push-2.ensures five in
-    let three = then _ _ _ (typed c.args.ty c.args.value.now) (punct "," ∷ space ∷ other) c.in_ok-push_typed.ensures four in
-    then _ _ _ (word "switch" ∷ space ∷ []) (typed c.args.ty c.args.value.now ++ punct "," ∷ space ∷ other) c.in_ok-push.ensures three
+    let three =
+    then _ _ _ (typed c.args.ty c.args.value.now) (punct "," ∷ space ∷ other) c.in_ok-push_typed.ensures four in
+    then _ _ _ (word "switch" ∷ space ∷ []) (typed c.args.ty c.args.value.now ++ punct "," ∷ space ∷ other)
+    c.in_ok-push.ensures three

@@ -13,4 +13,5 @@ returns c =
     let three = then _ _ _ ty (space ∷ init) c.in_ok-push_type.ensures four in
     let all = then _ _ _ (ty ++ space ∷ init) (line_end ∷ []) three c.in_ok-push-3.ensures in
     let two = then _ _ _ front (ty ++ space ∷ init ++ line_end ∷ []) c.in_ok-push.ensures all in
-    then _ _ _ (global c.args.global.now.name ∷ []) (front ++ (ty ++ space ∷ init ++ line_end ∷ [])) c.in_ok-push_global.ensures two
+    then _ _ _ (global c.args.global.now.name ∷ [])
+    (front ++ (ty ++ space ∷ init ++ line_end ∷ [])) c.in_ok-push_global.ensures two

@@ -6,4 +6,5 @@ use Rattle.ds_print.proofs.globals.push_globals.Given as goal
 
 -- what the list has so far was added
 abbrev pub invariant-loop-global : goal.invariant-loop-global
-invariant-loop-global l = l.text.items ≡ l.fn.text.items ++ written (flat_map (global_pieces l.fn.lines) (take l.global-index l.globals))
+invariant-loop-global l =
+    l.text.items ≡ l.fn.text.items ++ written (flat_map (global_pieces l.fn.lines) (take l.global-index l.globals))

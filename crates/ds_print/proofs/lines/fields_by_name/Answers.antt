@@ -11,8 +11,10 @@ loop-at-preserved c =
     let next : c.loop-at.at ≡ c.loop-at.at - 1 + 1 = omega (arith, some) in
     let line = c.index-structs-at.result in (
       omega (arith, inside),
-      line_before c.args.structs.now (c.loop-at.at - 1) c.loop-at.at line _ _ inside next c.index-structs-at.is c.loop-at.invariant.1
-          (c.in_ok-define.ensures ∙ ap (with_fields (fields_in c.loop-at.found.texts c.loop-at.found.numbers) line.name) c.as_slice.ensures),
+      line_before c.args.structs.now (c.loop-at.at - 1) c.loop-at.at line _ _ inside next c.index-structs-at.is
+          c.loop-at.invariant.1
+          (c.in_ok-define.ensures ∙ ap (with_fields (fields_in c.loop-at.found.texts c.loop-at.found.numbers)
+          line.name) c.as_slice.ensures),
     )
 
 pub returns : goal.returns

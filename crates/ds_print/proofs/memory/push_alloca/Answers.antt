@@ -8,4 +8,5 @@ pub returns : goal.returns
 returns c =
     let ty = type_pieces c.args.ty.now in
     let count = optional_operand c.args.count.now in
-    then _ _ _ (word "alloca" ∷ space ∷ []) (ty ++ count) c.in_ok-push.ensures (then _ _ _ ty count c.in_ok-push_type.ensures c.in_ok-push_optional_operand.ensures)
+    then _ _ _ (word "alloca" ∷ space ∷ []) (ty ++ count) c.in_ok-push.ensures
+    (then _ _ _ ty count c.in_ok-push_type.ensures c.in_ok-push_optional_operand.ensures)

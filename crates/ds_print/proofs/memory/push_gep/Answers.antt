@@ -11,4 +11,5 @@ returns c =
     let base = punct "," ∷ space ∷ typed Ptr c.args.base.now in
     let indices = more_listed (map operand_pieces c.args.indices.now) in
     let three = then _ _ _ base indices c.in_ok-push_more_typed.ensures c.in_ok-push_more_operands.ensures in
-    then _ _ _ (word "getelementptr" ∷ space ∷ []) (ty ++ (base ++ indices)) c.in_ok-push.ensures (then _ _ _ ty (base ++ indices) c.in_ok-push_type.ensures three)
+    then _ _ _ (word "getelementptr" ∷ space ∷ []) (ty ++ (base ++ indices)) c.in_ok-push.ensures
+    (then _ _ _ ty (base ++ indices) c.in_ok-push_type.ensures three)

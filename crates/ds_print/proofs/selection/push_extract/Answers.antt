@@ -12,6 +12,8 @@ returns c =
     let pair = punct "," ∷ space ∷ scalar I1 ∷ space ∷ punct "}" ∷ space ∷ of in
     let six = then _ _ _ (punct "," ∷ space ∷ []) index c.in_ok-push-3.ensures c.in_ok-push_count.ensures in
     let five = then _ _ _ (local c.args.of.now ∷ []) comma c.in_ok-push_local.ensures six in
-    let four = then _ _ _ (punct "," ∷ space ∷ scalar I1 ∷ space ∷ punct "}" ∷ space ∷ []) of c.in_ok-push-2.ensures five in
+    let four =
+    then _ _ _ (punct "," ∷ space ∷ scalar I1 ∷ space ∷ punct "}" ∷ space ∷ []) of c.in_ok-push-2.ensures five in
     let three = then _ _ _ (scalar c.args.ty ∷ []) pair c.in_ok-push_scalar.ensures four in
-    then _ _ _ (word "extractvalue" ∷ space ∷ punct "{" ∷ space ∷ []) (scalar c.args.ty ∷ pair) c.in_ok-push.ensures three
+    then _ _ _ (word "extractvalue" ∷ space ∷ punct "{" ∷ space ∷ [])
+    (scalar c.args.ty ∷ pair) c.in_ok-push.ensures three

@@ -5,4 +5,5 @@ use Rattle.ds_print.proofs.structs.push_fields.Given as goal
 
 -- what the list has so far was added
 abbrev pub invariant-loop-index : goal.invariant-loop-index
-invariant-loop-index l = l.text.items ≡ l.fn.text.items ++ written (listed_behind_space (map type_pieces (take l.index l.fields)))
+invariant-loop-index l =
+    l.text.items ≡ l.fn.text.items ++ written (listed_behind_space (map type_pieces (take l.index l.fields)))

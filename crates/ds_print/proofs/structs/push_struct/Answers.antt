@@ -10,6 +10,8 @@ returns c =
     let fields = listed_behind_space (map type_pieces c.args.line.now.fields) in
     let close = space ∷ punct "}" ∷ line_end ∷ [] in
     let front = space ∷ punct "=" ∷ space ∷ word "type" ∷ space ∷ punct "{" ∷ [] in
-    let added = subst (λ types. c.push_fields.new.text.items ≡ c.push.new.text.items ++ written (listed_behind_space (map type_pieces types))) c.as_slice.ensures c.in_ok-push_fields.ensures in
-    let two = then _ _ _ front (fields ++ close) c.in_ok-push.ensures (then _ _ _ fields close added c.in_ok-push-2.ensures) in
+    let added = subst (λ types. c.push_fields.new.text.items ≡ c.push.new.text.items
+    ++ written (listed_behind_space (map type_pieces types))) c.as_slice.ensures c.in_ok-push_fields.ensures in
+    let two =
+    then _ _ _ front (fields ++ close) c.in_ok-push.ensures (then _ _ _ fields close added c.in_ok-push-2.ensures) in
     then _ _ _ (local c.args.line.now.name ∷ []) (front ++ (fields ++ close)) c.in_ok-push_local.ensures two
