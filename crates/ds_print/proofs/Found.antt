@@ -1,67 +1,152 @@
--- What two maps have for names once the fields of one are inserted.
-use Rattle.std.proofs.Common.{◌≡◌, ℕ, suc, ◌+◌, ◌<◌, ◌≤◌, List, ◌∷◌, length, drop, get_or, drop-cons, add-one, ap}
-use Rattle.std.proofs.Common.{sym, subst, refl, ◌∙◌}
-use Rattle.std.specs.Prelude.{Option, Some, None, IfSome, MatchOption, slice_get, Bool, true, false, if◌then◌else◌}
-use Rattle.std.specs.Prelude.{bytes_eq}
-use Rattle.std.proofs.lemmas.Option.{slice_get_read, slice_get_past}
+-- The fields that are kept beside names, with one line more and at the place of a name.
+use Rattle.std.proofs.Common.{◌≡◌, ℕ, suc, ◌+◌, ◌<◌, ◌≤◌, List, [], ◌∷◌, ◌++◌, length, take, get_or, refl, sym, subst}
+use Rattle.std.proofs.Common.{◌∙◌, ap, inl, inr, arith}
+use Rattle.std.specs.Prelude.{Option, Some, None, IfSome, MatchOption, slice_get, option_map, Bool, true, false}
+use Rattle.std.specs.Prelude.{if◌then◌else◌}
 use Rattle.std.specs.Option.{option_copied}
-use Rattle.std.specs.BTreeMap.{BTreeMap, UpdatesBy, get_by}
-use Rattle.std.specs.Cmp.Lexicographic.{slice_cmp}
-use Rattle.std.specs.Ordering.{nat_cmp}
-use Rattle.std.proofs.lemmas.Map.Text.{btree_map_updates_str}
+use Rattle.std.proofs.lemmas.Option.{slice_get_read, slice_get_past}
+use Rattle.std.proofs.lemmas.List.{take_more, length-append}
 use denote.Ref.{Bor}
 use Rattle.ds_ast.specs.declared.name.Name.{Name}
-use Rattle.ds_ast.specs.declared.name.Name.TheVariants.{Number, Text}
 use Rattle.ds_ast.specs.declared.ty.Ty.{Ty}
 use Rattle.ds_ast.specs.declared.module.StructDef.{StructDef}
-use Rattle.ds_ast.specs.Bounds.{fields_of}
-use Rattle.ds_print.specs.Lines.{Fields, fields_in, with_fields}
+use Rattle.ds_ast.specs.Bounds.{is_name, fields_of}
+use Rattle.ds_names.specs.Names.{Among, place_of}
+use Rattle.ds_print.specs.Lines.{fields_beside, Kept}
 
-same_fields : (f g : Fields) → ((q : Name) → f q ≡ g q) → f ≡ g
-same_fields f g h = λ i q. h q i
+-- the first, if there is one, and else the second
+abbrev either : Option (List Ty) → Option (List Ty) → Option (List Ty)
+either None other = other
+either (Some fields) other = Some fields
 
--- a test in front of what is copied
-copied_by : (b : Bool) (fields : Bor (List Ty)) (o : Option (Bor (List Ty)))
-    → option_copied (if b then Some fields else o) ≡ (if b then Some fields.now else option_copied o)
-copied_by true fields o = refl
-copied_by false fields o = refl
+past : (b : Bool) (x : List Ty) (o p r : Option (List Ty)) → r ≡ either o p
+    → (if b then Some x else r) ≡ either (if b then Some x else o) p
+past true x o p r e = refl
+past false x o p r e = e
 
-text_defined : (texts more : BTreeMap (Bor (List ℕ)) (Bor (List Ty))) (numbers : BTreeMap ℕ (Bor (List Ty)))
-    (bytes : List ℕ) (fields : Bor (List Ty))
-    → UpdatesBy (λ x y. slice_cmp nat_cmp x.now y.now) (λ k. slice_cmp nat_cmp bytes k.now) texts more (Some fields)
-    → (q : Name) → fields_in more numbers q ≡ with_fields (fields_in texts numbers) (Text bytes) fields.now q
-text_defined texts more numbers bytes fields h (Number m) = refl
-text_defined texts more numbers bytes fields h (Text other) =
-    ap (λ (o : Option (Bor (List Ty))). option_copied o) (btree_map_updates_str bytes texts more (Some fields) h other)
-    ∙ copied_by (bytes_eq bytes other) fields (get_by (λ k. slice_cmp nat_cmp other k.now) texts)
+or_none : (o : Option (List Ty)) → either o None ≡ o
+or_none None = refl
+or_none (Some x) = refl
 
-pub defines_text : (texts more : BTreeMap (Bor (List ℕ)) (Bor (List Ty))) (numbers : BTreeMap ℕ (Bor (List Ty)))
-    (bytes : List ℕ) (fields : Bor (List Ty)) (name : Name) → name ≡ Text bytes
-    → UpdatesBy (λ x y. slice_cmp nat_cmp x.now y.now) (λ k. slice_cmp nat_cmp bytes k.now) texts more (Some fields)
-    → fields_in more numbers ≡ with_fields (fields_in texts numbers) name fields.now
-defines_text texts more numbers bytes fields name e h =
-    let P : Name → Type 0 = λ name. fields_in more numbers ≡ with_fields (fields_in texts numbers) name fields.now in
-    subst P (sym e) (same_fields _ _ (text_defined texts more numbers bytes fields h))
+twice : (b : Bool) (x y : List Ty) (o : Option (List Ty))
+    → either (if b then Some x else o) (if b then Some y else None) ≡ (if b then Some x else o)
+twice true x y o = refl
+twice false x y o = or_none o
 
--- the line at a place in front of those behind it
-pub line_before : (structs : List StructDef) (at before : ℕ) (line : StructDef) (found more : Fields)
-    → at < length structs → before ≡ at + 1 → line ≡ get_or structs at line
-    → found ≡ fields_of (drop before structs) → more ≡ with_fields found line.name line.fields
-    → more ≡ fields_of (drop at structs)
-line_before structs at before line found more inside next is so_far added =
-    added ∙ ap (λ (f : Fields). with_fields f line.name line.fields)
-    (so_far ∙ ap (λ (n : ℕ). fields_of (drop n structs)) (next ∙ add-one at))
-    ∙ ap (λ (ls : List StructDef). fields_of ls) (ap (λ (l : StructDef). l ∷ drop (suc at) structs) is
-    ∙ sym (drop-cons structs at line inside))
+keep : (b : Bool) (x : List Ty) (o p : Option (List Ty)) → either o p ≡ o
+    → either (if b then Some x else o) p ≡ (if b then Some x else o)
+keep true x o p e = refl
+keep false x o p e = e
 
--- the maps have the fields of the first line of a name
-pub given_fields : (texts : BTreeMap (Bor (List ℕ)) (Bor (List Ty))) (numbers : BTreeMap ℕ (Bor (List Ty)))
-    (structs lines : List StructDef) (name key : Name) (fields : Option (Bor (List Ty)))
-    → option_copied fields ≡ fields_in texts numbers key → fields_in texts numbers ≡ fields_of structs
-    → structs ≡ lines → name ≡ key → option_copied fields ≡ fields_of lines name
-given_fields texts numbers structs lines name key fields e all same is =
-    e ∙ ap (λ (found : Fields). found key) all ∙ ap (λ (ss : List StructDef). fields_of ss key) same
-    ∙ ap (λ (n : Name). fields_of lines n) (sym is)
+-- one line more
+line_behind : (lines : List StructDef) (line : StructDef) (q : Name)
+    → fields_of (lines ++ line ∷ []) q ≡ either (fields_of lines q)
+    (if is_name line.name q then Some line.fields else None)
+line_behind [] line q = refl
+line_behind (l ∷ lines) line q = past (is_name l.name q) l.fields (fields_of lines q) _ _ (line_behind lines line q)
+
+-- one name more, with its fields beside it
+name_behind : (names : List Name) (fields : List (Bor (List Ty))) (n : Name) (f : Bor (List Ty)) (q : Name)
+    → length names ≡ length fields
+    → fields_beside (names ++ n ∷ []) (fields ++ f ∷ []) q
+    ≡ either (fields_beside names fields q) (if is_name n q then Some f.now else None)
+name_behind [] [] n f q e = refl
+name_behind [] (g ∷ fields) n f q e = absurd (omega (arith, e))
+name_behind (m ∷ names) [] n f q e = absurd (omega (arith, e))
+name_behind (m ∷ names) (g ∷ fields) n f q e =
+    past (is_name m q) g.now (fields_beside names fields q) _ _ (name_behind names fields n f q (omega (arith, e)))
+
+-- a name that stands there has fields already
+name_there : (names : List Name) (fields : List (Bor (List Ty))) (n : Name) (x : List Ty) (q : Name)
+    → length names ≡ length fields → Among n names
+    → either (fields_beside names fields q) (if is_name n q then Some x else None) ≡ fields_beside names fields q
+name_there [] fields n x q e a = absurd a
+name_there (m ∷ names) [] n x q e a = absurd (omega (arith, e))
+name_there (m ∷ names) (g ∷ fields) n x q e (inl same) =
+    let P : Name → Type 0 =
+    λ k. either (fields_beside (m ∷ names) (g ∷ fields) q) (if is_name k q then Some x else None)
+    ≡ fields_beside (m ∷ names) (g ∷ fields) q in
+    subst P same (twice (is_name m q) g.now x (fields_beside names fields q))
+name_there (m ∷ names) (g ∷ fields) n x q e (inr later) =
+    keep (is_name m q) g.now (fields_beside names fields q) _ (name_there names fields n x q (omega (arith, e)) later)
+
+counted : {A B : Type 0} (xs : List A) (ys : List B) (x : A) (y : B) → length xs ≡ length ys
+    → length (xs ++ x ∷ []) ≡ length (ys ++ y ∷ [])
+counted xs ys x y e = length-append xs (x ∷ []) ∙ ap (λ n. n + 1) e ∙ sym (length-append ys (y ∷ []))
+
+-- one line more, whose name is new
+pub kept_new : (line : StructDef) (names more_names : List Name) (fields more_fields : List (Bor (List Ty)))
+    (f : Bor (List Ty)) → more_names ≡ names ++ line.name ∷ [] → more_fields ≡ fields ++ f ∷ [] → f.now ≡ line.fields
+    → (lines : List StructDef) → Kept names fields lines → Kept more_names more_fields (lines ++ line ∷ [])
+kept_new line names more_names fields more_fields f named beside same lines kept = (
+  ap (λ ns. length ns) named ∙ counted names fields line.name f kept.0 ∙ sym (ap (λ fs. length fs) beside),
+  λ q. ap (λ ns. fields_beside ns more_fields q) named ∙ ap (λ fs. fields_beside (names ++ line.name ∷ []) fs q) beside
+      ∙ name_behind names fields line.name f q kept.0
+      ∙ ap (λ o. either o (if is_name line.name q then Some f.now else None)) (kept.1 q)
+      ∙ ap (λ x. either (fields_of lines q) (if is_name line.name q then Some x else None)) same
+      ∙ sym (line_behind lines line q),
+)
+
+-- one line more, whose name stands there
+pub kept_there : (line : StructDef) (names more_names : List Name) (fields more_fields : List (Bor (List Ty)))
+    → Among line.name names → more_names ≡ names → more_fields ≡ fields
+    → (lines : List StructDef) → Kept names fields lines → Kept more_names more_fields (lines ++ line ∷ [])
+kept_there line names more_names fields more_fields among named beside lines kept = (
+  ap (λ ns. length ns) named ∙ kept.0 ∙ sym (ap (λ fs. length fs) beside),
+  λ q. ap (λ ns. fields_beside ns more_fields q) named ∙ ap (λ fs. fields_beside names fs q) beside
+      ∙ sym (name_there names fields line.name line.fields q kept.0 among)
+      ∙ ap (λ o. either o (if is_name line.name q then Some line.fields else None)) (kept.1 q)
+      ∙ sym (line_behind lines line q),
+)
+
+-- the lines up to a place and the one there
+pub kept_on : (lines : List StructDef) (i : ℕ) (line : StructDef) (names : List Name) (fields : List (Bor (List Ty)))
+    → i < length lines → line ≡ get_or lines i line
+    → Kept names fields (take i lines ++ line ∷ []) → Kept names fields (take (i + 1) lines)
+kept_on lines i line names fields inside is kept =
+    let there : take i lines ++ line ∷ [] ≡ take (i + 1) lines =
+    ap (λ (l : StructDef). take i lines ++ l ∷ []) is ∙ sym (take_more lines i line inside) in
+    let P : List StructDef → Type 0 = λ ls. Kept names fields ls in
+    subst P there kept
+
+-- what stands at a place, if there is one
+abbrev at_place : Option ℕ → List (Bor (List Ty)) → Option (List Ty)
+at_place None fields = None
+at_place (Some i) fields = option_copied (slice_get fields i)
+
+next : (b : Bool) (g : Bor (List Ty)) (fields : List (Bor (List Ty))) (o : Option ℕ) (r : Option (List Ty))
+    → r ≡ at_place o fields
+    → (if b then Some g.now else r) ≡ at_place (if b then Some 0 else option_map suc o) (g ∷ fields)
+next true g fields o r e = refl
+next false g fields None r e = e
+next false g fields (Some i) r e = e
+
+-- what is beside a name stands at its place
+pub beside_at : (names : List Name) (fields : List (Bor (List Ty))) (q : Name) → length names ≡ length fields
+    → fields_beside names fields q ≡ at_place (place_of names q) fields
+beside_at [] fields q e = refl
+beside_at (m ∷ names) [] q e = absurd (omega (arith, e))
+beside_at (m ∷ names) (g ∷ fields) q e =
+    next (is_name m q) g fields (place_of names q) _ (beside_at names fields q (omega (arith, e)))
+
+-- the fields at the place of a name are those of its first line
+pub placed : (structs lines : List StructDef) (names : List Name) (fields items : List (Bor (List Ty))) (name : Name)
+    (found : Option ℕ) (place : ℕ) (o : Option (Bor (List Ty)))
+    → Kept names fields structs → structs ≡ lines → found ≡ place_of names name → found ≡ Some place → items ≡ fields
+    → o ≡ slice_get items place → option_copied o ≡ fields_of lines name
+placed structs lines names fields items name found place o kept all is some same given =
+    ap (λ p. option_copied p) given ∙ ap (λ xs. option_copied (slice_get xs place)) same
+    ∙ ap (λ p. at_place p fields) (sym some ∙ is)
+    ∙ sym (beside_at names fields name kept.0) ∙ kept.1 name ∙ ap (λ ls. fields_of ls name) all
+
+-- a name with no place has no line
+pub unplaced : (structs lines : List StructDef) (names : List Name) (fields : List (Bor (List Ty))) (name : Name)
+    (found : Option ℕ)
+    → Kept names fields structs → structs ≡ lines → found ≡ place_of names name → found ≡ None
+    → None ≡ fields_of lines name
+unplaced structs lines names fields name found kept all is none =
+    ap (λ p. at_place p fields) (sym none ∙ is) ∙ sym (beside_at names fields name kept.0) ∙ kept.1 name
+    ∙ ap (λ ls. fields_of ls name) all
 
 -- what a slice has at a place
 pub got : (types : List Ty) (i : ℕ) (found : Option (Bor Ty)) (Q : Bor Ty → Type 0)

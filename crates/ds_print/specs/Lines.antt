@@ -1,23 +1,18 @@
--- The fields that two maps have for names: one for texts, and one for numbers.
-use Rattle.std.specs.Prelude.{ℕ, List, Option, Some, if◌then◌else◌}
-use Rattle.std.specs.Option.{option_copied}
-use Rattle.std.specs.BTreeMap.{BTreeMap, get_by}
-use Rattle.std.specs.Cmp.Lexicographic.{slice_cmp}
-use Rattle.std.specs.Ordering.{nat_cmp}
+-- The fields of struct types, kept beside their names.
+use Rattle.std.specs.Prelude.{◌≡◌, List, [], ◌∷◌, length, Option, Some, None, if◌then◌else◌}
 use denote.Ref.{Bor}
 use Rattle.ds_ast.specs.declared.name.Name.{Name}
-use Rattle.ds_ast.specs.declared.name.Name.TheVariants.{Number, Text}
 use Rattle.ds_ast.specs.declared.ty.Ty.{Ty}
-use Rattle.ds_ast.specs.Bounds.{is_name}
+use Rattle.ds_ast.specs.declared.module.StructDef.{StructDef}
+use Rattle.ds_ast.specs.Bounds.{is_name, fields_of}
 
--- the fields of the struct type of a name, where there is one
-abbrev pub Fields : Type 0
-Fields = Name → Option (List Ty)
+-- the fields beside the name, where it stands there
+abbrev pub fields_beside : List Name → List (Bor (List Ty)) → Name → Option (List Ty)
+fields_beside [] fields name = None
+fields_beside (n ∷ names) [] name = None
+fields_beside (n ∷ names) (f ∷ fields) name = if is_name n name then Some f.now else fields_beside names fields name
 
-abbrev pub fields_in : BTreeMap (Bor (List ℕ)) (Bor (List Ty)) → BTreeMap ℕ (Bor (List Ty)) → Fields
-fields_in texts numbers (Number n) = option_copied (get_by (nat_cmp n) numbers)
-fields_in texts numbers (Text bytes) = option_copied (get_by (λ k. slice_cmp nat_cmp bytes k.now) texts)
-
--- the fields as before, but this name has these
-abbrev pub with_fields : Fields → Name → List Ty → Fields
-with_fields found name fields = λ other. if is_name name other then Some fields else found other
+-- each name has the fields of the first of these lines beside it
+abbrev pub Kept : List Name → List (Bor (List Ty)) → List StructDef → Type 0
+Kept names fields lines =
+    (length names ≡ length fields) × ((name : Name) → fields_beside names fields name ≡ fields_of lines name)

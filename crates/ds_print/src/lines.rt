@@ -1,69 +1,27 @@
 //! The lines of struct types, by their names.
-ghost use Rattle.std.specs.Prelude.{◌≡◌, Option, option_copied, OnOk, IfOk};
-ghost use Rattle.ds_ast.specs.declared.name.Name.{Name};
+ghost use Rattle.std.specs.Prelude.{◌≡◌, ◌++◌, ◌∷◌, [], List, option_copied, slice_get, IfOk, OnOk};
+ghost use Rattle.ds_ast.specs.declared.module.StructDef.{StructDef};
 ghost use Rattle.ds_ast.specs.Bounds as bounds;
-ghost use Rattle.ds_print.specs.Lines.{fields_in, with_fields};
+ghost use Rattle.ds_print.specs.Lines.{Kept};
 
 use ds_ast::{Name, StructDef, Ty};
+use ds_names::Names;
 use std::alloc::{AllocError, Global};
-use std::collections::BTreeMap;
 use std::marker::Model;
 
-/// The fields of struct types by their names. Where a name has several lines, those of the first.
-#[derive(Drop)]
-struct Fields<'a> {
-    texts: BTreeMap<&'a [u8], &'a [Ty]>,
-    numbers: BTreeMap<u32, &'a [Ty]>,
-}
-
-impl<'a> Fields<'a> {
-    /// Lets a name have these fields.
-    fn define(&mut self, name: &'a Name, fields: &'a [Ty]) -> Result<(), AllocError>
-        ensures { OnOk result
-            (fields_in self.new.texts self.new.numbers
-            ≡ with_fields (fields_in self.old.texts self.old.numbers) name.now fields.now) }
-    {
-        match name {
-            Name::Number(number) => {
-                self.numbers.insert(*number, fields)?;
-            }
-            Name::Text(text) => {
-                self.texts.insert(text.as_slice(), fields)?;
-            }
-        }
-        Ok(())
-    }
-}
-
-/// The fields of these lines. They are gone through from the last to the first, which so is the one that stays.
-fn fields_by_name<'a>(alloc: Global, structs: &'a [StructDef]) -> Result<Fields<'a>, AllocError>
-    ensures { IfOk result (λ found. fields_in found.texts found.numbers ≡ bounds.fields_of structs.now) }
-{
-    let mut found = Fields {
-        texts: BTreeMap::new(alloc),
-        numbers: BTreeMap::new(alloc),
-    };
-    let mut at = structs.len();
-    while at > 0 {
-        at -= 1;
-        let line = &structs[at];
-        found.define(&line.name, line.fields.as_slice())?;
-    }
-    Ok(found)
-}
-
-/// The lines of struct types, by their names. Contracts see the list of them.
+/// The lines of struct types, by their names. Contracts see the list of them. Where a name has several lines, the
+/// fields of the first are kept beside it.
 #[derive(Drop)]
 pub struct Lines<'a> {
     structs: &'a [StructDef],
-    found: Fields<'a>,
+    names: Names<'a>,
+    fields: Vec<&'a [Ty]>,
 }
 
 impl<'a> Model for Lines<'a> {
-    ghost use Rattle.std.specs.Prelude.{◌≡◌, List};
+    ghost use Rattle.std.specs.Prelude.{List};
     ghost use Rattle.ds_ast.specs.declared.module.StructDef.{StructDef};
-    ghost use Rattle.ds_ast.specs.Bounds as bounds;
-    ghost use Rattle.ds_print.specs.Lines.{fields_in};
+    ghost use Rattle.ds_print.specs.Lines.{Kept};
     ghost use Rattle.ds_ast.specs.contracts.ty.Ty as row;
     ghost use Rattle.std.specs.Coded.{codes};
 
@@ -73,8 +31,7 @@ impl<'a> Model for Lines<'a> {
 
     ghost view = { λ lines. lines.structs.now };
 
-    ghost invariant = { λ lines. fields_in lines.found.texts lines.found.numbers
-        ≡ bounds.fields_of lines.structs.now };
+    ghost invariant = { λ lines. Kept lines.names lines.fields.items lines.structs.now };
 }
 
 impl<'a> Lines<'a> {
@@ -82,17 +39,47 @@ impl<'a> Lines<'a> {
     pub fn new(alloc: Global, structs: &'a [StructDef]) -> Result<Lines<'a>, AllocError>
         ensures { IfOk result (λ lines. lines ≡ structs.now) }
     {
-        let found = fields_by_name(alloc, structs)?;
-        Ok(Lines { structs, found })
+        let mut names = Names::new(alloc);
+        let mut fields = Vec::new(alloc);
+        for line in structs {
+            keep(&mut names, &mut fields, line)?;
+        }
+        Ok(Lines {
+            structs,
+            names,
+            fields,
+        })
     }
 
     /// The fields of the first line of a name.
-    pub fn fields_of(&self, name: &'a Name) -> Option<&'a [Ty]>
+    pub fn fields_of(&self, name: &Name) -> Option<&'a [Ty]>
         ensures { option_copied result ≡ bounds.fields_of self.now name.now }
     {
-        match name {
-            Name::Number(number) => self.found.numbers.get(number).copied(),
-            Name::Text(text) => self.found.texts.get(&text.as_slice()).copied(),
+        match self.names.place(name) {
+            Some(place) => at(self.fields.as_slice(), place),
+            None => None,
         }
     }
+}
+
+/// Keeps the fields of a line beside its name, if that is new.
+fn keep<'a>(
+    names: &mut Names<'a>,
+    fields: &mut Vec<&'a [Ty]>,
+    line: &'a StructDef,
+) -> Result<(), AllocError>
+    ensures { OnOk result ((lines : List StructDef) → Kept names.old fields.old.items lines
+        → Kept names.new fields.new.items (lines ++ line.now ∷ [])) }
+{
+    if names.put(&line.name)? {
+        fields.push(line.fields.as_slice())?;
+    }
+    Ok(())
+}
+
+/// The fields at this place, from 0 on, if it has some.
+fn at<'a>(fields: &[&'a [Ty]], place: usize) -> Option<&'a [Ty]>
+    ensures { result ≡ slice_get fields.now place }
+{
+    fields.get(place).copied()
 }
