@@ -106,7 +106,7 @@ pub stands_next : (small : Module) (answers words words' : List ℕ) (traces tra
     → MainStands small (answers ++ told_at position (answer_on words (op_at default_limits 0 position)) ∷ []) words' traces' order'
 stands_next small answers words words' traces traces' order order' position lt here goes turn stood =
     let program : Program = program_of small in
-    let request : Request = request_at (length answers) answers (slice_get small.code (length answers)) in
+    let request : Request = request_at small.main (length answers) answers (slice_get small.code (length answers)) in
     let old : ℕ = answer_on words (op_at default_limits 0 position) in
     let moves : moved default_limits 0 (main_thread small answers) old ≡ main_thread small (answers ++ told_at position old ∷ []) =
     main_moves small answers request old lt (λ stop e. goes stop (here ∙ e)) ∙ ap (λ (p : Position). main_thread small (answers ++ told_at p old ∷ [])) (sym here) in
@@ -150,7 +150,7 @@ order_next answers answers' order order' told more was is =
 
 -- behind the last instruction main returns
 pub returns_behind : (small : Module) (answers : List ℕ) → length small.code ≤ length answers → main_position small answers ≡ StoreEnded (Returned None)
-returns_behind small answers all = ap (λ (op : Option SmallOp). position_of (request_at (length answers) answers op)) (slice_get_past small.code (length answers) all)
+returns_behind small answers all = ap (λ (op : Option SmallOp). position_of (request_at small.main (length answers) answers op)) (slice_get_past small.code (length answers) all)
 
 -- main's first step, as the code comes by it
 pub begun_by : (small : Module) (lim : Bounds) (image words words' : List ℕ) (traces traces' : List (List Step)) (order order' : List ℕ) → lim ≡ default_limits → image ≡ small.globals

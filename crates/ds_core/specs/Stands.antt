@@ -38,7 +38,7 @@ StandsAfter lim thread position words words' traces traces' order order' =
 
 -- where main stands, once its instructions so far were given these answers
 abbrev pub main_position : Module → List ℕ → Position
-main_position small answers = position_of (request_at (length answers) answers (slice_get small.code (length answers)))
+main_position small answers = position_of (request_at small.main (length answers) answers (slice_get small.code (length answers)))
 
 -- what a step at this position answers to the instruction that asked for it
 abbrev pub told_at : Position → ℕ → ℕ

@@ -7,8 +7,10 @@ use Rattle.ds_small.specs.declared.SmallValue.TheVariants.{Number, Result}
 use Rattle.ds_small.specs.declared.SmallOp.{SmallOp}
 use Rattle.ds_small.specs.declared.SmallOp.TheVariants.{Load, Store, Print}
 
--- the values that the globals begin with, each modulo 2 ^ 64, in the order of the text, and the instructions of main without its return
+-- the number of main among all functions of the text, declared ones too, from 0; the values that the globals begin with, each modulo 2 ^ 64, in the order
+-- of the text; and the instructions of main without its return
 pub record Module : Type 0 where
+  pub main : ℕ
   pub globals : List ℕ
   pub code : List SmallOp
 

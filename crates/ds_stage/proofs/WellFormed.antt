@@ -21,7 +21,7 @@ use Rattle.ds_small.specs.declared.SmallOp.{SmallOp}
 use Rattle.ds_small.specs.declared.SmallOp.TheVariants.{Load, Store, Print}
 use Rattle.ds_small.specs.Module.{is_load, IsAddressAmong, IsValueBefore, UsesDefined, IsWellFormed}
 use Rattle.ds_small.specs.Module as small
-use Rattle.ds_stage.specs.Form.{◌>>=◌, Names, no_names, with_name, value_of, address_of, Globals, literal, may_be_global, with_global, global_more, globals_of, load_of, stored, printed, effect_of, Code, may_name_local, with_op, op_of, code_more, is_i64, is_return, returned, code_of, small_by, small_from, small_with}
+use Rattle.ds_stage.specs.Form.{◌>>=◌, Names, no_names, with_name, value_of, address_of, Globals, literal, may_be_global, with_global, global_more, globals_of, load_of, stored, printed, effect_of, Code, may_name_local, with_op, op_of, code_more, is_i64, is_return, returned, code_of, Main, small_by, small_from, small_with}
 use Rattle.ds_stage.specs.declared.fault.StageFault.{StageFault}
 use Rattle.ds_stage.specs.Found.{Finds}
 use Rattle.ds_stage.proofs.Found.{if_found, map_found, then_found}
@@ -123,9 +123,9 @@ address_among globals n (value.Global name) a b h =
     let p = map_found (λ g. address.Global g) (globals name) a h in
     subst P p.2 (b name p.0 p.1)
 
--- the instruction uses what is defined before it
+-- the instruction uses what is defined before it, whatever the number of main is
 abbrev Uses : List ℕ → List SmallOp → SmallOp → Type 0
-Uses values ops o = UsesDefined (record { globals = values; code = ops }) (length ops) o
+Uses values ops o = UsesDefined (record { main = 0; globals = values; code = ops }) (length ops) o
 
 stored_found : (v : Option SmallValue) (a : Option SmallAddress) (o : SmallOp) → stored v a ≡ Some o → (s : SmallValue) × (at : SmallAddress) × (v ≡ Some s) × (a ≡ Some at) × (Store s at ≡ o)
 stored_found None a o h = absurd (cc h)
@@ -196,25 +196,25 @@ module _ (gs : Globals) (good : AreGood gs) (locals : Names) (ops : List SmallOp
 record IsGoodCode (values : List ℕ) (c : Code) : Type 0 where
   pub few : length c.ops ≤ 199999
   pub loads : AllLoads c.names c.ops
-  pub uses : (i : ℕ) (o : SmallOp) → slice_get c.ops i ≡ Some o → UsesDefined (record { globals = values; code = c.ops }) i o
+  pub uses : (i : ℕ) (o : SmallOp) → slice_get c.ops i ≡ Some o → UsesDefined (record { main = 0; globals = values; code = c.ops }) i o
 
 value_later : (ops more : List SmallOp) (i : ℕ) (v : SmallValue) → IsValueBefore ops i v → IsValueBefore (ops ++ more) i v
 value_later ops more i (small_value.Number n) h = tt
 value_later ops more i (small_value.Result k) h = (h.0, h.1, got_before ops more k (Load h.1) h.2)
 
-uses_later : (values : List ℕ) (ops more : List SmallOp) (i : ℕ) (o : SmallOp) → UsesDefined (record { globals = values; code = ops }) i o → UsesDefined (record { globals = values; code = ops ++ more }) i o
+uses_later : (values : List ℕ) (ops more : List SmallOp) (i : ℕ) (o : SmallOp) → UsesDefined (record { main = 0; globals = values; code = ops }) i o → UsesDefined (record { main = 0; globals = values; code = ops ++ more }) i o
 uses_later values ops more i (Load a) h = h
 uses_later values ops more i (Store v a) h = (value_later ops more i v h.0, h.1)
 uses_later values ops more i (Print v) h = value_later ops more i v h
 
-uses_all : (values : List ℕ) (ops : List SmallOp) (o : SmallOp) → ((i : ℕ) (x : SmallOp) → slice_get ops i ≡ Some x → UsesDefined (record { globals = values; code = ops }) i x) → Uses values ops o
-    → (i : ℕ) (x : SmallOp) → slice_get (ops ++ o ∷ []) i ≡ Some x → UsesDefined (record { globals = values; code = ops ++ o ∷ [] }) i x
+uses_all : (values : List ℕ) (ops : List SmallOp) (o : SmallOp) → ((i : ℕ) (x : SmallOp) → slice_get ops i ≡ Some x → UsesDefined (record { main = 0; globals = values; code = ops }) i x) → Uses values ops o
+    → (i : ℕ) (x : SmallOp) → slice_get (ops ++ o ∷ []) i ≡ Some x → UsesDefined (record { main = 0; globals = values; code = ops ++ o ∷ [] }) i x
 uses_all values ops o all u i x h =
     elim (got_in ops o i x h) [
       | inl before ↦ uses_later values ops (o ∷ []) i x (all i x before)
       | inr p ↦
-          let P : ℕ → Type 0 = λ j. UsesDefined (record { globals = values; code = ops ++ o ∷ [] }) j o in
-          let Q : SmallOp → Type 0 = UsesDefined (record { globals = values; code = ops ++ o ∷ [] }) i in
+          let P : ℕ → Type 0 = λ j. UsesDefined (record { main = 0; globals = values; code = ops ++ o ∷ [] }) j o in
+          let Q : SmallOp → Type 0 = UsesDefined (record { main = 0; globals = values; code = ops ++ o ∷ [] }) i in
           subst Q p.1 (subst P (sym p.0) (uses_later values ops (o ∷ []) (length ops) o u))
     ]
 
@@ -264,20 +264,33 @@ none_below = record { below = λ name k h. absurd (cc h); few = omega arith }
 none_used : (values : List ℕ) → IsGoodCode values (record { names = no_names; ops = [] })
 none_used values = record { few = omega arith; loads = λ name k h. absurd (cc h); uses = λ i o h. absurd (cc h) }
 
-small_by_good : (gs : Globals) (c : Code) (s : small.Module) → AreGood gs → IsGoodCode gs.values c → small_by gs c ≡ Some s → IsWellFormed s
-small_by_good gs c s g k h =
-    let p = if_found (nat_le (count_by is_load c.ops) 65536) (Some (record { globals = gs.values; code = c.ops })) s h in
-    let e : ◌≡◌ {A = small.Module} (record { globals = gs.values; code = c.ops }) s = cc (p.1) in
-    subst IsWellFormed e (record { few_globals = g.few; few_instructions = k.few; few_loads = leb-true (count_by is_load c.ops) 65536 p.0; defined = k.uses })
+-- whatever the number of main is
+of_any_main : (n : ℕ) (values : List ℕ) (ops : List SmallOp) (i : ℕ) (o : SmallOp) → UsesDefined (record { main = 0; globals = values; code = ops }) i o
+    → UsesDefined (record { main = n; globals = values; code = ops }) i o
+of_any_main n values ops i (Load a) h = h
+of_any_main n values ops i (Store v a) h = h
+of_any_main n values ops i (Print v) h = h
 
-with_good : (ds : List GlobalDef) (b : Block) (s : small.Module) → small_with ds b ≡ Some s → IsWellFormed s
-with_good ds b s h =
-    let p = then_found (globals_of (record { names = no_names; values = [] }) ds) (small_from b) s h in
+small_by_good : (n : ℕ) (gs : Globals) (c : Code) (s : small.Module) → AreGood gs → IsGoodCode gs.values c → small_by n gs c ≡ Some s → IsWellFormed s
+small_by_good n gs c s g k h =
+    let p = if_found (nat_le (count_by is_load c.ops) 65536) (Some (record { main = n; globals = gs.values; code = c.ops })) s h in
+    let e : ◌≡◌ {A = small.Module} (record { main = n; globals = gs.values; code = c.ops }) s = cc (p.1) in
+    subst IsWellFormed e (record {
+      few_globals = g.few;
+      few_instructions = k.few;
+      few_loads = leb-true (count_by is_load c.ops) 65536 p.0;
+      defined = λ i o at. of_any_main n gs.values c.ops i o (k.uses i o at);
+    })
+
+with_good : (ds : List GlobalDef) (main : Main) (s : small.Module) → small_with ds main ≡ Some s → IsWellFormed s
+with_good ds main s h =
+    let p = then_found (globals_of (record { names = no_names; values = [] }) ds) (small_from main) s h in
     let g = globals_good (record { names = no_names; values = [] }) p.0 ds none_below p.1 in
-    let q = then_found (code_of p.0.names b.name (record { names = no_names; ops = [] }) b.code) (small_by p.0) s p.2 in
-    small_by_good p.0 q.0 s g (all_good p.0 g b.name b.code (record { names = no_names; ops = [] }) q.0 (none_used p.0.values) q.1) q.2
+    let b : Block = main.block in
+    let q = then_found (code_of p.0.names b.name (record { names = no_names; ops = [] }) b.code) (small_by main.number p.0) s p.2 in
+    small_by_good main.number p.0 q.0 s g (all_good p.0 g b.name b.code (record { names = no_names; ops = [] }) q.0 (none_used p.0.values) q.1) q.2
 
 -- what the code finds is well formed
-pub finds_good : (ds : List GlobalDef) (b : Block) (r : Result small.Module StageFault) → Finds (λ (s : small.Module). s) r (small_with ds b) → IfOk r IsWellFormed
-finds_good ds b (Ok s) h = with_good ds b s h
-finds_good ds b (Err f) h = tt
+pub finds_good : (ds : List GlobalDef) (main : Main) (r : Result small.Module StageFault) → Finds (λ (s : small.Module). s) r (small_with ds main) → IfOk r IsWellFormed
+finds_good ds main (Ok s) h = with_good ds main s h
+finds_good ds main (Err f) h = tt

@@ -234,14 +234,23 @@ only_block (b ∷ c ∷ bs) = None
 abbrev pub main_block : Function → Option Block
 main_block f = if is_called (codes "main") f.name && is_void_type f.result && are_none f.params then only_block f.blocks else None
 
--- the block of main in two functions, of which the other is print_i64
-abbrev pub block_of : Function → Function → Option Block
-block_of f g = if is_print f then main_block g else (if is_print g then main_block f else None)
+-- main: its number among all functions, declared ones too, and its block
+pub record Main : Type 0 where
+  pub number : ℕ
+  pub block : Block
 
-abbrev pub body_of : List Function → Option Block
+-- main, where the function of this number is that and has one block
+abbrev pub main_at : ℕ → Function → Option Main
+main_at n f = option_map (λ b. record { number = n; block = b }) (main_block f)
+
+-- main in two functions, of which the other is print_i64
+abbrev pub main_of : Function → Function → Option Main
+main_of f g = if is_print f then main_at 1 g else (if is_print g then main_at 0 f else None)
+
+abbrev pub body_of : List Function → Option Main
 body_of [] = None
 body_of (f ∷ []) = None
-body_of (f ∷ g ∷ []) = block_of f g
+body_of (f ∷ g ∷ []) = main_of f g
 body_of (f ∷ g ∷ h ∷ fs) = None
 
 -- THE MODULE
@@ -250,16 +259,16 @@ abbrev pub no_structs : List StructDef → Bool
 no_structs [] = true
 no_structs (s ∷ ss) = false
 
--- the small module of these globals and instructions, of which at most 65,536 are loads
-abbrev pub small_by : Globals → Code → Option small.Module
-small_by gs c = if nat_le (count_by is_load c.ops) 65536 then Some (record { globals = gs.values; code = c.ops }) else None
+-- the small module of main's number, these globals and instructions, of which at most 65,536 are loads
+abbrev pub small_by : ℕ → Globals → Code → Option small.Module
+small_by n gs c = if nat_le (count_by is_load c.ops) 65536 then Some (record { main = n; globals = gs.values; code = c.ops }) else None
 
--- the small module of these globals and this block
-abbrev pub small_from : Block → Globals → Option small.Module
-small_from b gs = code_of gs.names b.name (record { names = no_names; ops = [] }) b.code >>= small_by gs
+-- the small module of main and these globals
+abbrev pub small_from : Main → Globals → Option small.Module
+small_from main gs = code_of gs.names main.block.name (record { names = no_names; ops = [] }) main.block.code >>= small_by main.number gs
 
-abbrev pub small_with : List GlobalDef → Block → Option small.Module
-small_with globals b = globals_of (record { names = no_names; values = [] }) globals >>= small_from b
+abbrev pub small_with : List GlobalDef → Main → Option small.Module
+small_with globals main = globals_of (record { names = no_names; values = [] }) globals >>= small_from main
 
 -- The small module that a module is, where it has this stage's form: no struct types; at most 4,096 globals of i64; and two functions in any
 -- order, the declaration of print_i64 and main, with one block of loads, stores and prints and a return behind them.
