@@ -14,7 +14,7 @@ use Rattle.ds_report.specs.Report.{IsReport, is_trap}
 use Rattle.ds_main.specs.declared.job.Job.{Job}
 use Rattle.ds_main.specs.declared.job.Job.TheVariants as jobs
 use Rattle.ds_main.specs.Job.{IsJob, HasJob, NoJob, IsReplay}
-use Rattle.ds_main.specs.Input.{IsRefused, IsAccepted, IsModuleOfInput, AcceptedInputsAreNotRefused, SpellsAccepted, SpellsSmall, Held}
+use Rattle.ds_main.specs.Input.{IsRefused, IsAccepted, IsModuleOfInput, AcceptedInputsAreNotRefused, SpellsAccepted, Held, function_names}
 use Rattle.ds_main.specs.Text.{IsTextOf, accepted_text}
 use Rattle.ds_main.specs.Run.{IsEmpty, IsRunOfInput, run_status, IsRunStatus}
 use Rattle.ds_main.specs.Ending.{Call, Refused, Ends, status_of, IsDue, IsDueText, IsCutShort, IsFaultStatus, IsStatus, IsOfModule, IsReadOut, Reported, HasAnswer, Answered}
@@ -44,9 +44,9 @@ no_text call text is x = text_of call text jobs.Replay is x
 no_status : (status m n : ℕ) → status ≡ m → status ≡ n → (m ≡ n → ⊥) → ⊥
 no_status status m n a b ne = ne (sym a ∙ b)
 
-pub headline : (call : Call) → Ends call → IsEmpty call.run ⊎ (IsJob call.words jobs.Replay × IsRunOfInput call.left call.run)
+pub headline : (call : Call) → Ends call → IsEmpty call.run ⊎ (IsJob call.words jobs.Replay × (m : Module) × IsRunOfInput call.left m call.run)
 headline call ends =
-    by_ending call _ (λ x. inl x.empty) (λ x. inl x.empty) (λ x. inr (x.ran.job, x.ran.run)) (λ x. inr (x.ran.job, x.ran.run)) (λ x. inl x.answer.empty) (λ x. inl x.answer.empty) (λ x. x.run) ends
+    by_ending call _ (λ x. inl x.empty) (λ x. inl x.empty) (λ x. inr (x.ran.job, x.ran.input_module, x.ran.run)) (λ x. inr (x.ran.job, x.ran.input_module, x.ran.run)) (λ x. inl x.answer.empty) (λ x. inl x.answer.empty) (λ x. x.run) ends
 
 -- the status of a fault is none of these
 fault_status : (fault : Fault) → IsFaultStatus (status_of fault)
@@ -92,12 +92,12 @@ by_done call P is a b ends =
     by_ending call P (λ x. absurd (run_or_fault call.status is (of_refused call x))) (λ x. absurd ((not_run call.status is).0 x.status)) a (λ x. absurd ((not_run call.status is).0 x.status)) b
     (λ x. absurd ((not_run call.status is).0 x.status)) (λ x. absurd ((not_run call.status is).1 x.status)) ends
 
-pub ran : (call : Call) → Ends call → IsJob call.words jobs.Replay → IsRunStatus call.status → IsRunOfInput call.left call.run
-ran call ends job is = by_done call _ is (λ x. x.ran.run) (λ x. absurd (no_text call x.text job x.answer)) ends
+pub ran : (call : Call) → Ends call → IsJob call.words jobs.Replay → IsRunStatus call.status → (m : Module) × IsRunOfInput call.left m call.run
+ran call ends job is = by_done call _ is (λ x. (x.ran.input_module, x.ran.run)) (λ x. absurd (no_text call x.text job x.answer)) ends
 
 pub reported : (call : Call) → Ends call → IsJob call.words jobs.Replay → IsRunStatus call.status
-    → (text : List ℕ) × IsReport call.run.stops call.run.traces text × Takes call.taken text call.taken_after
-reported call ends job is = by_done call _ is (λ x. (x.text, x.ran.report, x.written)) (λ x. absurd (no_text call x.text job x.answer)) ends
+    → (m : Module) × IsRunOfInput call.left m call.run × (text : List ℕ) × IsReport (function_names m) call.run.stops call.run.traces text × Takes call.taken text call.taken_after
+reported call ends job is = by_done call _ is (λ x. (x.ran.input_module, x.ran.run, x.text, x.ran.report, x.written)) (λ x. absurd (no_text call x.text job x.answer)) ends
 
 pub run_status_is : (call : Call) → Ends call → IsJob call.words jobs.Replay → IsRunStatus call.status → call.status ≡ run_status call.run.stops
 run_status_is call ends job is = by_done call _ is (λ x. x.status) (λ x. absurd (no_text call x.text job x.answer)) ends
@@ -200,8 +200,9 @@ due_with_job words left rose (Check fault names) job is due = inl refl
 due_with_job words left rose OtherForm job is due = inl refl
 
 -- what was run was accepted
-run_is_accepted : (left : Option (List ℕ)) (call : Call) (bytes : List ℕ) → left ≡ Some bytes → IsRunOfInput left call.run → IsAccepted jobs.Replay bytes
-run_is_accepted left call bytes held run = (run.small, subst (λ (b : List ℕ). SpellsSmall b run.small) (sym (run.held bytes held)) run.spelled)
+run_is_accepted : (left : Option (List ℕ)) (call : Call) (bytes : List ℕ) (m : Module) → left ≡ Some bytes → IsRunOfInput left m call.run → IsAccepted jobs.Replay bytes
+run_is_accepted left call bytes m held run =
+    (run.as_small, (m, subst (λ (b : List ℕ). SpellsAccepted b m) (sym (run.of_input.held bytes held)) run.of_input.spelled, run.form))
 
 -- an input that spells an accepted module is accepted for a job that has a text
 text_is_accepted : (job : Job) (bytes : List ℕ) (m : Module) (text : List ℕ) → IsTextOf job m text → SpellsAccepted bytes m → IsAccepted job bytes
@@ -223,7 +224,7 @@ refusal_is_told call law ends job is bytes held bad =
     let told : (x : Refused call) → (call.status ≡ 1) ⊎ ((call.status ≡ 4) × Rose call.reads call.reads_after) ⊎ IsCutShort call.status = λ x.
     elim (due_with_job call.words call.left (Rose call.reads call.reads_after) x.fault job is x.due) [ inl one ↦ inl (x.status ∙ one) | inr four ↦ inr (inl (x.status ∙ four.0, four.1)) ] in
     by_ending call _ told (λ x. inr (inr (inl x.status)))
-    (λ x. absurd (law job bytes (done_is_accepted call.words bytes job jobs.Replay is x.ran.job (run_is_accepted call.left call bytes held x.ran.run)) bad)) (λ x. inr (inr (inl x.status)))
+    (λ x. absurd (law job bytes (done_is_accepted call.words bytes job jobs.Replay is x.ran.job (run_is_accepted call.left call bytes x.ran.input_module held x.ran.run)) bad)) (λ x. inr (inr (inl x.status)))
     (λ x. absurd (law job bytes (done_is_accepted call.words bytes job x.answer.job is x.answer.is_job (answer_is_accepted call bytes x.text held x.answer)) bad)) (λ x. inr (inr (inl x.status)))
     (λ x. inr (inr (inr x.status))) ends
 
@@ -236,7 +237,7 @@ nothing_run call ends is = by_fault call _ is (λ x. x.empty) ends
 
 pub write_failed : (call : Call) → Ends call → call.status ≡ 5 → Rose call.writes call.writes_after × (text : List ℕ) × IsDueText call.words call.left (Rose call.reads call.reads_after) call.run text × TakesFront call.taken text call.taken_after
 write_failed call ends five = by_ending call _ (λ x. absurd ((not_fault call.status (of_refused call x)).1 five)) (λ x. (x.rose, fault_text x.fault, inl (x.fault, x.due, x.empty, refl), x.written)) (λ x. absurd ((not_run call.status (of_reported call x)).0 five))
-    (λ x. (x.rose, x.text, inr (inl (x.ran.job, x.ran.run, x.ran.report)), x.written)) (λ x. absurd ((not_run call.status (of_answered call x)).0 five))
+    (λ x. (x.rose, x.text, inr (inl (x.ran.job, x.ran.input_module, x.ran.run, x.ran.report)), x.written)) (λ x. absurd ((not_run call.status (of_answered call x)).0 five))
     (λ x. (x.rose, x.text, inr (inr (x.answer.job, x.answer.is_job, x.answer.input_module, x.answer.of_input, x.answer.empty, x.answer.text_of)), x.written)) (λ x. absurd (omega arith)) ends
 
 pub out_of_memory : (call : Call) → Ends call → call.status ≡ 6 → call.taken_after ≡ call.taken
@@ -260,15 +261,15 @@ no_fault words left rose OtherForm job bytes law is held accepted calm due =
     law job bytes accepted (inr (inr (inr (subst IsReplay (one_job words due.0 job due.1 is) due.2.0, due.2.1 bytes held))))
 
 -- an empty record is of no run
-empty_or_run : (call : Call) (left : Option (List ℕ)) → IsEmpty call.run → IsRunOfInput left call.run → ⊥
-empty_or_run call left empty run = let stops : length call.run.stops ≡ 0 = rw empty.no_stops refl in absurd (omega (arith, run.run_of.sixteen_stops, stops))
+empty_or_run : (call : Call) (left : Option (List ℕ)) (m : Module) → IsEmpty call.run → IsRunOfInput left m call.run → ⊥
+empty_or_run call left m empty run = let stops : length call.run.stops ≡ 0 = rw empty.no_stops refl in absurd (omega (arith, run.run_of.sixteen_stops, stops))
 
 pub run_is_made : (call : Call) → AcceptedInputsAreNotRefused → Ends call → IsJob call.words jobs.Replay
     → Held call.left (λ bytes. IsAccepted jobs.Replay bytes → ¬ Rose call.reads call.reads_after → IsEmpty call.run → call.status ≡ 6)
 run_is_made call law ends job bytes held accepted calm empty = by_ending call _
     (λ x. absurd (no_fault call.words call.left (Rose call.reads call.reads_after) x.fault jobs.Replay bytes law job held accepted calm x.due))
     (λ x. absurd (no_fault call.words call.left (Rose call.reads call.reads_after) x.fault jobs.Replay bytes law job held accepted calm x.due))
-    (λ x. absurd (empty_or_run call call.left empty x.ran.run)) (λ x. absurd (empty_or_run call call.left empty x.ran.run))
+    (λ x. absurd (empty_or_run call call.left x.ran.input_module empty x.ran.run)) (λ x. absurd (empty_or_run call call.left x.ran.input_module empty x.ran.run))
     (λ x. absurd (no_text call x.text job x.answer)) (λ x. absurd (no_text call x.text job x.answer)) (λ x. x.status) ends
 
 pub complete : (call : Call) → AcceptedInputsAreNotRefused → Ends call → (job : Job) → IsJob call.words job

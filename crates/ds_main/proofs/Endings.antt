@@ -3,6 +3,7 @@ use Rattle.std.proofs.Common.{◌≡◌, ℕ, ◌⊎◌, inl, inr, List, Option,
 use Rattle.std.specs.Prelude.{IsErrOf}
 use Rattle.ds_ast.specs.declared.module.Module.{Module}
 use Rattle.ds_small.specs.Module as small
+use Rattle.ds_stage.specs.Form.{small_of}
 use Rattle.ds_io.specs.Counts.{Rose}
 use Rattle.ds_io.specs.Source.{GivesAll}
 use Rattle.ds_core.specs.declared.record.RunRecord.{RunRecord}
@@ -19,7 +20,7 @@ use Rattle.ds_main.specs.Job.{IsJob, NoJob}
 use Rattle.ds_main.specs.Input.{Held, IsModuleOfInput, IsOtherForm}
 use Rattle.ds_main.specs.Text.{IsTextOf}
 use Rattle.ds_main.specs.Run.{IsEmpty, IsRunOfModule, IsRunOfInput}
-use Rattle.ds_main.specs.Ending.{Call, Faults, Refused, RefusedInPart, HasRun, Reported, ReportedInPart, HasAnswer, Answered, AnsweredInPart, OutOfMemory, Ends, status_of, IsDue, IsInputFault, Delivers, Unwritten, IsOfModule, IsReadOut, IsInputOf, IsSmallInputOf, RunEnds, ModuleEnds, Stops, ReplayEnds, AnswerEnds}
+use Rattle.ds_main.specs.Ending.{Call, Faults, Refused, RefusedInPart, HasRun, Reported, ReportedInPart, HasAnswer, Answered, AnsweredInPart, OutOfMemory, Ends, status_of, IsDue, IsInputFault, Delivers, Unwritten, IsOfModule, IsReadOut, IsInputOf, RunEnds, ModuleEnds, Stops, ReplayEnds, AnswerEnds}
 use Rattle.ds_main.specs.Stopped.{Explains, StoppedBy}
 use Rattle.ds_main.proofs.Inputs.{held_bytes, read_out}
 
@@ -52,7 +53,7 @@ answered call x = inr (inr (inr (inr (inl x))))
 answered_in_part : (call : Call) → AnsweredInPart call → Ends call
 answered_in_part call x = inr (inr (inr (inr (inr (inl x)))))
 
-out_of_memory : (call : Call) → Unwritten call.taken call.taken_after call.status → IsEmpty call.run ⊎ (IsJob call.words Replay × IsRunOfInput call.left call.run) → Ends call
+out_of_memory : (call : Call) → Unwritten call.taken call.taken_after call.status → IsEmpty call.run ⊎ (IsJob call.words Replay × (m : Module) × IsRunOfInput call.left m call.run) → Ends call
 out_of_memory call u run = inr (inr (inr (inr (inr (inr (record { status = u.0; nothing = u.1; run = run }))))))
 
 -- a fault of the input is due where there is a job
@@ -89,18 +90,22 @@ stop_ends : (call : Call) (job : Job) → IsJob call.words job → Stops job cal
 stop_ends call job is (inl x) = fault_ends call x.0 (due call.words call.left (Rose call.reads call.reads_after) x.0 job is x.1) x.2 x.3 x.4
 stop_ends call job is (inr x) = out_of_memory call x.0 (inl x.1)
 
-run_of_input : (call : Call) (s : small.Module) → IsSmallInputOf call.left call.left_after s → IsRunOfModule s call.run → IsRunOfInput call.left call.run
-run_of_input call s input run =
-    record { bytes = input.0; small = s; held = λ bytes held. sym (held_bytes call.left call.left_after input.0 bytes input.1 held); spelled = input.2; run_of = run }
+-- the module that was read is that of the input
+of_input : (left left_after : Option (List ℕ)) (m : Module) → IsInputOf left left_after m → IsModuleOfInput left m
+of_input left left_after m input = record { bytes = input.0; held = λ bytes held. sym (held_bytes left left_after input.0 bytes input.1 held); spelled = input.2 }
 
-run_ends : (call : Call) (s : small.Module) → IsJob call.words Replay → IsSmallInputOf call.left call.left_after s
-    → RunEnds s call.taken call.taken_after call.writes call.writes_after call.status call.run → Ends call
-run_ends call s job input (inl x) = out_of_memory call x.0 (inl x.1)
-run_ends call s job input (inr x) =
+run_of_input : (call : Call) (m : Module) (s : small.Module) → IsInputOf call.left call.left_after m → small_of m ≡ Some s → IsRunOfModule s call.run → IsRunOfInput call.left m call.run
+run_of_input call m s input form run = record { of_input = of_input call.left call.left_after m input; as_small = s; form = form; run_of = run }
+
+run_ends : (call : Call) (m : Module) (s : small.Module) → IsJob call.words Replay → IsInputOf call.left call.left_after m → small_of m ≡ Some s
+    → RunEnds m s call.taken call.taken_after call.writes call.writes_after call.status call.run → Ends call
+run_ends call m s job input form (inl x) = out_of_memory call x.0 (inl x.1)
+run_ends call m s job input form (inr x) =
     elim x.1 [
-      | inl unwritten ↦ out_of_memory call unwritten (inr (job, run_of_input call s input x.0))
+      | inl unwritten ↦ out_of_memory call unwritten (inr (job, m, run_of_input call m s input form x.0))
       | inr y ↦
-          let ran : HasRun call y.0 = record { job = job; run = run_of_input call s input x.0; read = read_out call.left call.left_after input.0 input.1; report = y.1 } in
+          let ran : HasRun call y.0 =
+          record { job = job; input_module = m; run = run_of_input call m s input form x.0; read = read_out call.left call.left_after input.0 input.1; report = y.1 } in
           elim y.2 [
             | inl told ↦ reported call (record { text = y.0; ran = ran; status = told.0; written = told.1 })
             | inr told ↦ reported_in_part call (record { text = y.0; ran = ran; status = told.0; rose = told.1; written = told.2 })
@@ -110,7 +115,7 @@ run_ends call s job input (inr x) =
 pub replay_ends : (call : Call) → IsJob call.words Replay
     → ReplayEnds call.left call.left_after call.reads call.reads_after call.taken call.taken_after call.writes call.writes_after call.status call.run → Ends call
 replay_ends call job (inl x) = stop_ends call Replay job x
-replay_ends call job (inr x) = run_ends call x.0 job x.1 x.2
+replay_ends call job (inr x) = run_ends call x.0 x.1 job x.2 x.3 x.4
 
 -- how a job ends that writes this text of each module
 pub answer_ends : (call : Call) (job : Job) (text : Module → List ℕ) → ((m : Module) → IsTextOf job m (text m)) → IsJob call.words job
@@ -118,8 +123,8 @@ pub answer_ends : (call : Call) (job : Job) (text : Module → List ℕ) → ((m
 answer_ends call job text text_of is (inl x) = stop_ends call job is x
 answer_ends call job text text_of is (inr x) =
     let input = x.1 in
-    let of : IsModuleOfInput call.left x.0 = record { bytes = input.0; held = λ bytes held. sym (held_bytes call.left call.left_after input.0 bytes input.1 held); spelled = input.2 } in
-    let answer : HasAnswer call (text x.0) = record { job = job; is_job = is; input_module = x.0; of_input = of; read = read_out call.left call.left_after input.0 input.1; text_of = text_of x.0; empty = x.2 } in
+    let answer : HasAnswer call (text x.0) =
+    record { job = job; is_job = is; input_module = x.0; of_input = of_input call.left call.left_after x.0 input; read = read_out call.left call.left_after input.0 input.1; text_of = text_of x.0; empty = x.2 } in
     elim x.3 [
       | inl told ↦ answered call (record { text = text x.0; answer = answer; status = told.0; written = told.1 })
       | inr told ↦ answered_in_part call (record { text = text x.0; answer = answer; status = told.0; rose = told.1; written = told.2 })
@@ -143,4 +148,4 @@ pub module_ends : (left left_after : Option (List ℕ)) (reads reads_after : ℕ
 module_ends left left_after reads reads_after taken taken_after writes writes_after status run m input (inl x) =
     inl (inl (OtherForm, (tt, held_by left left_after input.0 IsOtherForm input.1 (m, input.2, x.0)), (λ of. read_out left left_after input.0 input.1), x.1, x.2))
 module_ends left left_after reads reads_after taken taken_after writes writes_after status run m input (inr (inl x)) = inl (inr x)
-module_ends left left_after reads reads_after taken taken_after writes writes_after status run m input (inr (inr x)) = inr (x.0, (input.0, input.1, (m, input.2, x.1)), x.2)
+module_ends left left_after reads reads_after taken taken_after writes writes_after status run m input (inr (inr x)) = inr (m, x.0, input, x.1, x.2)

@@ -1,9 +1,11 @@
 -- What was recorded is a run of the module.
-use Rattle.std.proofs.Common.{◌≡◌, ℕ, List, Option, Some, None, subst, arith}
+use Rattle.std.proofs.Common.{◌≡◌, ℕ, List, [], ◌∷◌, length, drop, replicate, Option, Some, None, ap, subst, arith}
 use Rattle.std.specs.Prelude.{IsSomeAnd}
 use Rattle.ds_step.specs.declared.Step.{Step}
 use Rattle.ds_small.specs.Module.{Module}
 use Rattle.ds_map.specs.Bounds.{Bounds, IsInRange, default_limits}
+use Rattle.ds_plain.specs.declared.Stop.{Stop}
+use Rattle.ds_plain.specs.declared.Stop.TheVariants.{Idle}
 use Rattle.ds_plain.specs.Explained.{IsRecord, IsLegalOrder, HasLegalOrder}
 use Rattle.ds_plain.specs.Small.{program_of}
 use Rattle.ds_laws.specs.Laws.{LegalRunsArePlain}
@@ -19,9 +21,21 @@ has_legal_order lim image traces (Some order) legal = ∣ (legal.0, legal.2, leg
 default_in_range : IsInRange default_limits
 default_in_range = record { some_page = omega arith; pages = omega arith; some_fuel = omega arith; fuel = omega arith; logs = omega arith; hash = omega arith }
 
-pub run_of_module : LegalRunsArePlain → (small : Module) (run : RunRecord) → IsRecord (program_of small) default_limits run.stops run.traces → IsSomeAnd run.order (IsLegalOrder default_limits small.globals run.traces) → IsRunOfModule small run
-run_of_module law small run recorded legal =
-    record { sixteen_stops = recorded.sixteen_stops; sixteen_traces = recorded.sixteen_traces; explained = law (program_of small) default_limits small.globals run.stops run.traces default_in_range recorded (has_legal_order default_limits small.globals run.traces run.order legal); order = legal }
+-- behind main's stop all are idle
+idle_behind : (stops : List Stop) (stop : Stop) → stops ≡ stop ∷ replicate 15 Idle → drop 1 stops ≡ replicate 15 Idle
+idle_behind stops stop are = ap (λ (s : List Stop). drop 1 s) are
+
+pub run_of_module : LegalRunsArePlain → (small : Module) (run : RunRecord) → IsRecord (program_of small) default_limits run.stops run.traces
+    → IsSomeAnd run.order (IsLegalOrder default_limits small.globals run.traces) → IsSomeAnd run.order (λ order. order ≡ replicate (length order) 0)
+    → (main : Stop) → run.stops ≡ main ∷ replicate 15 Idle → IsRunOfModule small run
+run_of_module law small run recorded legal alone main stops = record {
+  sixteen_stops = recorded.sixteen_stops;
+  sixteen_traces = recorded.sixteen_traces;
+  explained = law (program_of small) default_limits small.globals run.stops run.traces default_in_range recorded (has_legal_order default_limits small.globals run.traces run.order legal);
+  order = legal;
+  main_alone = alone;
+  others_idle = idle_behind run.stops main stops;
+}
 
 -- the same status under another name
 pub delivers_as : (text : List ℕ) (done same : ℕ) (taken taken_after : Option (List ℕ)) (writes writes_after status : ℕ) → done ≡ same

@@ -21,7 +21,7 @@ use Rattle.ds_report.specs.Report.{IsReport}
 use Rattle.ds_main.specs.declared.job.Job.{Job}
 use Rattle.ds_main.specs.declared.job.Job.TheVariants.{Replay}
 use Rattle.ds_main.specs.Job.{IsJob, NoJob, IsReplay}
-use Rattle.ds_main.specs.Input.{Held, SpellsAccepted, SpellsSmall, IsTooLong, HasTextFault, SpellsFaulty, IsOtherForm, IsModuleOfInput}
+use Rattle.ds_main.specs.Input.{Held, SpellsAccepted, IsTooLong, HasTextFault, SpellsFaulty, IsOtherForm, IsModuleOfInput, function_names}
 use Rattle.ds_main.specs.Text.{IsTextOf}
 use Rattle.ds_main.specs.Run.{IsEmpty, IsRunOfModule, IsRunOfInput, run_status, IsRunStatus}
 
@@ -128,12 +128,13 @@ pub record RefusedInPart (call : Call) : Type 0 where
   pub written : TakesFront call.taken (fault_text fault) call.taken_after
   pub empty : IsEmpty call.run
 
--- the module was run, and this is the report
+-- the accepted module that the input spells was run, and this is the report
 pub record HasRun (call : Call) (text : List ℕ) : Type 0 where
   pub job : IsJob call.words Replay
-  pub run : IsRunOfInput call.left call.run
+  pub input_module : Module
+  pub run : IsRunOfInput call.left input_module call.run
   pub read : IsReadOut call
-  pub report : IsReport call.run.stops call.run.traces text
+  pub report : IsReport (function_names input_module) call.run.stops call.run.traces text
 
 -- the module was run and its report was written
 pub record Reported (call : Call) : Type 0 where
@@ -179,7 +180,7 @@ pub record AnsweredInPart (call : Call) : Type 0 where
 pub record OutOfMemory (call : Call) : Type 0 where
   pub status : call.status ≡ 6
   pub nothing : call.taken_after ≡ call.taken
-  pub run : IsEmpty call.run ⊎ (IsJob call.words Replay × IsRunOfInput call.left call.run)
+  pub run : IsEmpty call.run ⊎ (IsJob call.words Replay × (m : Module) × IsRunOfInput call.left m call.run)
 
 -- every call ends so
 abbrev pub Ends : Call → Type 0
@@ -200,7 +201,7 @@ IsStatus status = IsRunStatus status ⊎ IsFaultStatus status ⊎ IsCutShort sta
 abbrev pub IsDueText : List (List ℕ) → Option (List ℕ) → (read_rose : Type 0) → RunRecord → List ℕ → Type 0
 IsDueText words left read_rose run text =
     ((fault : Fault) × IsDue words left read_rose fault × IsEmpty run × (text ≡ fault_text fault))
-    ⊎ ((IsJob words Replay × IsRunOfInput left run × IsReport run.stops run.traces text)
+    ⊎ ((IsJob words Replay × (m : Module) × IsRunOfInput left m run × IsReport (function_names m) run.stops run.traces text)
     ⊎ ((job : Job) × IsJob words job × (m : Module) × IsModuleOfInput left m × IsEmpty run × IsTextOf job m text))
 
 -- the text was written and the status is the one that stands for that, or the sink failed in the middle of it
@@ -216,23 +217,19 @@ Unwritten taken taken_after status = (status ≡ 6) × (taken_after ≡ taken)
 abbrev pub IsInputOf : Option (List ℕ) → Option (List ℕ) → Module → Type 0
 IsInputOf left left_after m = (bytes : List ℕ) × GivesAll left bytes left_after × SpellsAccepted bytes m
 
--- the same of a module of the form that this stage runs
-abbrev pub IsSmallInputOf : Option (List ℕ) → Option (List ℕ) → small.Module → Type 0
-IsSmallInputOf left left_after s = (bytes : List ℕ) × GivesAll left bytes left_after × SpellsSmall bytes s
-
--- how a run of the module ends: memory ran out before it, behind it, or its report was delivered
-abbrev pub RunEnds : small.Module → Option (List ℕ) → Option (List ℕ) → ℕ → ℕ → ℕ → RunRecord → Type 0
-RunEnds s taken taken_after writes writes_after status run =
+-- how a run of the module, as this small one, ends: memory ran out before it, behind it, or its report was delivered
+abbrev pub RunEnds : Module → small.Module → Option (List ℕ) → Option (List ℕ) → ℕ → ℕ → ℕ → RunRecord → Type 0
+RunEnds m s taken taken_after writes writes_after status run =
     (Unwritten taken taken_after status × IsEmpty run)
     ⊎ (IsRunOfModule s run × (Unwritten taken taken_after status
-    ⊎ ((text : List ℕ) × IsReport run.stops run.traces text × Delivers text (run_status run.stops) taken taken_after writes writes_after status)))
+    ⊎ ((text : List ℕ) × IsReport (function_names m) run.stops run.traces text × Delivers text (run_status run.stops) taken taken_after writes writes_after status)))
 
 -- how the job `replay` ends once it has its module: the module has another form, memory ran out, or the module was run
 abbrev pub ModuleEnds : Module → Option (List ℕ) → Option (List ℕ) → ℕ → ℕ → ℕ → RunRecord → Type 0
 ModuleEnds m taken taken_after writes writes_after status run =
     ((small_of m ≡ None) × IsEmpty run × (Delivers (fault_text OtherForm) (status_of OtherForm) taken taken_after writes writes_after status ⊎ Unwritten taken taken_after status))
     ⊎ ((Unwritten taken taken_after status × IsEmpty run)
-    ⊎ ((s : small.Module) × (small_of m ≡ Some s) × RunEnds s taken taken_after writes writes_after status run))
+    ⊎ ((s : small.Module) × (small_of m ≡ Some s) × RunEnds m s taken taken_after writes writes_after status run))
 
 -- the call ends by a fault of the input, or memory ran out before anything was run
 abbrev pub Stops : Job → Option (List ℕ) → Option (List ℕ) → ℕ → ℕ → Option (List ℕ) → Option (List ℕ) → ℕ → ℕ → ℕ → RunRecord → Type 0
@@ -244,7 +241,7 @@ Stops job left left_after reads reads_after taken taken_after writes writes_afte
 abbrev pub ReplayEnds : Option (List ℕ) → Option (List ℕ) → ℕ → ℕ → Option (List ℕ) → Option (List ℕ) → ℕ → ℕ → ℕ → RunRecord → Type 0
 ReplayEnds left left_after reads reads_after taken taken_after writes writes_after status run =
     Stops Replay left left_after reads reads_after taken taken_after writes writes_after status run
-    ⊎ ((s : small.Module) × IsSmallInputOf left left_after s × RunEnds s taken taken_after writes writes_after status run)
+    ⊎ ((m : Module) × (s : small.Module) × IsInputOf left left_after m × (small_of m ≡ Some s) × RunEnds m s taken taken_after writes writes_after status run)
 
 -- how a job that runs nothing ends, which writes this text of each module, by what it was given and what it left
 abbrev pub AnswerEnds : Job → (Module → List ℕ) → Option (List ℕ) → Option (List ℕ) → ℕ → ℕ → Option (List ℕ) → Option (List ℕ) → ℕ → ℕ → ℕ → RunRecord → Type 0

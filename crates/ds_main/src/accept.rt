@@ -20,8 +20,8 @@ pub fn are_bytes(bytes: &[u8])
     ensures { All (λ byte. byte < 2 ^ 8) bytes.now }
 {}
 
-/// The names of all functions of a module, in the order of the text.
-fn names_of(alloc: Global, module: &Module) -> Result<Vec<Name>, AllocError>
+/// The names of all functions of a module, declared ones too, in the order of the text.
+pub fn names_of(alloc: Global, module: &Module) -> Result<Vec<Name>, AllocError>
     ensures { IfOk result (λ names. names.items ≡ function_names «module».now) }
 {
     let mut names = Vec::new(alloc);

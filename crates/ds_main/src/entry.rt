@@ -11,7 +11,7 @@ ghost use Rattle.ds_report.specs.Fault.{fault_text};
 ghost use Rattle.ds_report.specs.Report.{IsReport};
 ghost use Rattle.ds_main.specs.declared.job.Job.{Job};
 ghost use Rattle.ds_main.specs.Job.{texts, IsJob, HasJob, NoJob};
-ghost use Rattle.ds_main.specs.Input.{Held, IsAccepted, IsRefused, IsModuleOfInput};
+ghost use Rattle.ds_main.specs.Input.{Held, IsAccepted, IsRefused, IsModuleOfInput, function_names};
 ghost use Rattle.ds_main.specs.Text.{accepted_text};
 ghost use Rattle.ds_main.specs.Run.{IsEmpty, IsRunOfInput, run_status, IsRunStatus};
 ghost use Rattle.ds_main.specs.Ending.{Call, Ends, status_of, IsDue, IsOfModule, IsDueText, IsCutShort, IsFaultStatus, IsStatus};
@@ -80,12 +80,14 @@ pub fn dangsan_main<R: Threads + Sync, S: Source, K: Sink, P: Pace>(
     pace: &P,
 ) -> Ended
     // The main theorem. Where the record is not empty, the input spells an accepted module of the stage's form, at least one order of
-    // the recorded steps is legal, and every legal order is, without log steps, a run of the plain machine on it.
-    ensures headline { IsEmpty result.run ⊎ (IsJob (texts words.now) Job.Replay × IsRunOfInput (S.left source.old) result.run) }
-    // With status 0 and 3 of `replay` there is a run, the sink took its whole report, and the status is 3 exactly where a thread trapped.
-    ensures ran { IsJob (texts words.now) Job.Replay → IsRunStatus result.status → IsRunOfInput (S.left source.old) result.run }
-    ensures reported { IsJob (texts words.now) Job.Replay → IsRunStatus result.status → (text : List ℕ) × IsReport result.run.stops result.run.traces text
-        × Takes (K.taken sink.old) text (K.taken sink.new) }
+    // the recorded steps is legal, and every legal order is, without log steps, a run of the plain machine on it. The recorded order is one of these, and
+    // every step in it is main's: the other 15 threads stand idle.
+    ensures headline { IsEmpty result.run ⊎ (IsJob (texts words.now) Job.Replay × (m : Module) × IsRunOfInput (S.left source.old) m result.run) }
+    // With status 0 and 3 of `replay` there is a run, the sink took its whole report, by the names of the functions of the module that the input spells, and
+    // the status is 3 exactly where a thread trapped.
+    ensures ran { IsJob (texts words.now) Job.Replay → IsRunStatus result.status → (m : Module) × IsRunOfInput (S.left source.old) m result.run }
+    ensures reported { IsJob (texts words.now) Job.Replay → IsRunStatus result.status → (m : Module) × IsRunOfInput (S.left source.old) m result.run
+        × (text : List ℕ) × IsReport (function_names m) result.run.stops result.run.traces text × Takes (K.taken sink.old) text (K.taken sink.new) }
     ensures run_status { IsJob (texts words.now) Job.Replay → IsRunStatus result.status → result.status ≡ run_status result.run.stops }
     // With status 0 of `check` and `instrument` the input spells an accepted module, and the sink took the whole text due. 3 is of `replay` alone.
     ensures checked { IsJob (texts words.now) Job.Check → result.status ≡ 0 → (m : Module) × IsModuleOfInput (S.left source.old) m

@@ -15,7 +15,6 @@ mod pace;
 mod refuse;
 mod replay;
 mod run;
-
 #[cfg(test)]
 mod tests;
 

@@ -18,7 +18,7 @@ fn run_module<K: Sink>(alloc: Global, sink: &mut K, module: &Module) -> Ended
     ensures { ModuleEnds «module».now (K.taken sink.old) (K.taken sink.new) (K.faults sink.old) (K.faults sink.new) result.status result.run }
 {
     match small_program(alloc, module) {
-        Ok(small) => run_and_report(alloc, sink, &small),
+        Ok(small) => run_and_report(alloc, sink, module, &small),
         Err(StageFault::OtherForm) => refuse(alloc, sink, &Fault::OtherForm),
         Err(StageFault::Memory) => out_of_memory(alloc),
     }

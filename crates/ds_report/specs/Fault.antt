@@ -1,5 +1,5 @@
 -- The line of each fault.
-use Rattle.std.specs.Prelude.{ℕ, Bool, true, false, ◌==◌, ◌&&◌, if◌then◌else◌, Option, Some, None, List, [], ◌∷◌, ◌++◌, slice_get, codes, decimal}
+use Rattle.std.specs.Prelude.{ℕ, Bool, true, false, ◌==◌, ◌&&◌, if◌then◌else◌, List, [], ◌∷◌, ◌++◌, codes, decimal}
 use Rattle.ds_ast.specs.declared.name.Name.{Name}
 use Rattle.ds_check.specs.declared.fault.CountKind.{CountKind}
 use Rattle.ds_check.specs.declared.fault.CountKind.TheVariants.{Functions, Instructions, Params, GlobalWords}
@@ -16,6 +16,7 @@ use Rattle.ds_print.specs.Names.{local, global}
 use Rattle.ds_shape.specs.declared.fault.ShapeFault.{ShapeFault}
 use Rattle.ds_shape.specs.declared.fault.ShapeFault.TheVariants.{TwiceType, Unknown, RecursiveType, TooLarge}
 use Rattle.ds_shape.specs.declared.fault.ShapeFault.TheVariants as shape
+use Rattle.ds_report.specs.Function.{function_text}
 use Rattle.ds_report.specs.declared.fault.Fault.{Fault}
 use Rattle.ds_report.specs.declared.fault.Fault.TheVariants.{Usage, Read, TooLong, Parse, Shape, Check, OtherForm}
 
@@ -60,15 +61,6 @@ shape_text (Unknown name) = local_line (codes "unknown type") name
 shape_text (RecursiveType name) = local_line (codes "recursive type") name
 shape_text (TooLarge name is_struct) = large_line is_struct name
 shape_text shape.Memory = []
-
--- the name of a function, and nothing where there is none
-abbrev pub name_text : Option Name → List ℕ
-name_text (Some name) = written (global name ∷ [])
-name_text None = []
-
--- the function of a number, of the module whose functions have these names in the order of the text; a number that no function has is told by nothing
-abbrev pub function_text : List Name → ℕ → List ℕ
-function_text names f = codes " in " ++ name_text (slice_get names f)
 
 -- what is wrong with an instruction of a function
 abbrev pub instruction_line : List Name → List ℕ → ℕ → ℕ → List ℕ
