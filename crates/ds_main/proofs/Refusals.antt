@@ -1,5 +1,5 @@
 -- An input that is accepted is not refused.
-use Rattle.std.proofs.Common.{◌≡◌, ℕ, ◌⊎◌, inl, inr, List, Option, Some, None, sym, ap, subst, ◌∙◌, arith}
+use Rattle.std.proofs.Common.{◌≡◌, ℕ, inl, inr, List, Option, Some, None, sym, ap, subst, ◌∙◌, arith}
 use Rattle.ds_ast.specs.declared.module.Module.{Module}
 use Rattle.ds_small.specs.Module as small
 use Rattle.ds_stage.specs.Form.{small_of}
@@ -10,9 +10,9 @@ use Rattle.ds_shape.specs.Laws.{LayoutsAreNotRefused}
 use Rattle.ds_check.specs.Laws.{AcceptedAreNotRefused}
 use Rattle.ds_report.specs.declared.fault.Fault.{Fault}
 use Rattle.ds_report.specs.declared.fault.Fault.TheVariants.{Usage, Read, TooLong, Parse, Shape, Check, OtherForm}
-use Rattle.ds_main.specs.declared.job.Job.{Job}
 use Rattle.ds_main.specs.declared.job.Job.TheVariants as jobs
-use Rattle.ds_main.specs.Input.{SpellsAccepted, SpellsSmall, SpellsFaulty, HasModuleFault, HasTextFault, IsTooLong, IsOtherForm, IsAccepted, IsRefused, AcceptedInputsAreNotRefused}
+use Rattle.ds_main.specs.Input.{SpellsAccepted, SpellsSmall}
+use Rattle.ds_main.specs.Refusal.{IsTooLong, HasTextFault, HasModuleFault, SpellsFaulty, IsOtherForm, AcceptedInputsAreNotRefused}
 
 -- an accepted module has no fault
 no_fault : LayoutsAreNotRefused → AcceptedAreNotRefused → (m : Module) (fault : Fault) → Accepted m → HasModuleFault fault m → ⊥

@@ -1,5 +1,5 @@
 -- What was recorded is a run of the module.
-use Rattle.std.proofs.Common.{◌≡◌, ℕ, List, [], ◌∷◌, length, drop, replicate, Option, Some, None, ap, subst, arith}
+use Rattle.std.proofs.Common.{◌≡◌, ℕ, List, ◌∷◌, length, drop, replicate, Option, Some, None, ap, subst, arith}
 use Rattle.std.specs.Prelude.{IsSomeAnd}
 use Rattle.ds_step.specs.declared.Step.{Step}
 use Rattle.ds_small.specs.Module.{Module}
@@ -11,7 +11,7 @@ use Rattle.ds_plain.specs.Small.{program_of}
 use Rattle.ds_laws.specs.Laws.{LegalRunsArePlain}
 use Rattle.ds_core.specs.declared.record.RunRecord.{RunRecord}
 use Rattle.ds_main.specs.Run.{IsRunOfModule}
-use Rattle.ds_main.specs.Ending.{Delivers}
+use Rattle.ds_main.specs.Ending.{Writing, Delivers}
 
 -- a recorded order that is legal is some legal order
 has_legal_order : (lim : Bounds) (image : List ℕ) (traces : List (List Step)) (order : Option (List ℕ)) → IsSomeAnd order (IsLegalOrder lim image traces) → HasLegalOrder lim image traces
@@ -38,6 +38,5 @@ run_of_module law small run recorded legal alone main stops = record {
 }
 
 -- the same status under another name
-pub delivers_as : (text : List ℕ) (done same : ℕ) (taken taken_after : Option (List ℕ)) (writes writes_after status : ℕ) → done ≡ same
-    → Delivers text done taken taken_after writes writes_after status → Delivers text same taken taken_after writes writes_after status
-delivers_as text done same taken taken_after writes writes_after status is told = subst (λ (n : ℕ). Delivers text n taken taken_after writes writes_after status) is told
+pub delivers_as : (text : List ℕ) (done same : ℕ) (sink : Writing) (status : ℕ) → done ≡ same → Delivers text done sink status → Delivers text same sink status
+delivers_as text done same sink status is told = subst (λ (n : ℕ). Delivers text n sink status) is told

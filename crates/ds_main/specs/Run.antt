@@ -1,16 +1,13 @@
 -- What the record of a run is a record of.
-use Rattle.std.specs.Prelude.{◌≡◌, ℕ, ◌⊎◌, List, [], length, drop, replicate, if◌then◌else◌, Option, Some, None, IsSomeAnd}
-use Rattle.std.specs.List.{list_any}
+use Rattle.std.specs.Prelude.{◌≡◌, ℕ, List, [], length, drop, replicate, Option, Some, None, IsSomeAnd}
 use Rattle.ds_ast.specs.declared.module.Module.{Module}
 use Rattle.ds_small.specs.Module as small
 use Rattle.ds_stage.specs.Form.{small_of}
 use Rattle.ds_map.specs.Bounds.{default_limits}
-use Rattle.ds_plain.specs.declared.Stop.{Stop}
 use Rattle.ds_plain.specs.declared.Stop.TheVariants.{Idle}
 use Rattle.ds_plain.specs.Explained.{IsRunOf, IsLegalOrder}
 use Rattle.ds_plain.specs.Small.{program_of}
 use Rattle.ds_core.specs.declared.record.RunRecord.{RunRecord}
-use Rattle.ds_report.specs.Report.{is_trap}
 use Rattle.ds_main.specs.Input.{IsModuleOfInput}
 
 -- nothing was run
@@ -36,11 +33,3 @@ pub record IsRunOfInput (left : Option (List ℕ)) (m : Module) (run : RunRecord
   pub as_small : small.Module
   pub form : small_of m ≡ Some as_small
   pub run_of : IsRunOfModule as_small run
-
--- the status of a run that was reported: 3 where a thread trapped, and else 0
-abbrev pub run_status : List Stop → ℕ
-run_status stops = if list_any is_trap stops then 3 else 0
-
--- the statuses of runs that were reported
-abbrev pub IsRunStatus : ℕ → Type 0
-IsRunStatus status = (status ≡ 0) ⊎ (status ≡ 3)

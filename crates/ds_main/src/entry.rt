@@ -11,10 +11,13 @@ ghost use Rattle.ds_report.specs.Fault.{fault_text};
 ghost use Rattle.ds_report.specs.Report.{IsReport};
 ghost use Rattle.ds_main.specs.declared.job.Job.{Job};
 ghost use Rattle.ds_main.specs.Job.{texts, IsJob, HasJob, NoJob};
-ghost use Rattle.ds_main.specs.Input.{Held, IsAccepted, IsRefused, IsModuleOfInput, function_names};
+ghost use Rattle.ds_main.specs.Input.{Held, IsAccepted, IsModuleOfInput, function_names};
+ghost use Rattle.ds_main.specs.Refusal.{IsRefused};
 ghost use Rattle.ds_main.specs.Text.{accepted_text};
-ghost use Rattle.ds_main.specs.Run.{IsEmpty, IsRunOfInput, run_status, IsRunStatus};
-ghost use Rattle.ds_main.specs.Ending.{Call, Ends, status_of, IsDue, IsOfModule, IsDueText, IsCutShort, IsFaultStatus, IsStatus};
+ghost use Rattle.ds_main.specs.Run.{IsEmpty, IsRunOfInput};
+ghost use Rattle.ds_main.specs.Status.{run_status, IsRunStatus, status_of, IsFaultStatus, IsCutShort, IsStatus};
+ghost use Rattle.ds_main.specs.Due.{IsDue, IsOfModule, IsDueText};
+ghost use Rattle.ds_main.specs.Ending.{reading, writing, Call, Ends};
 
 use crate::check::check;
 use crate::instrument::instrument;
@@ -38,16 +41,9 @@ fn answer<S: Source, K: Sink>(
 ) -> Ended
     ensures { let call : Call = record {
       words = texts words.now;
-      left = S.left source.old;
-      left_after = S.left source.new;
-      reads = S.faults source.old;
-      reads_after = S.faults source.new;
-      taken = K.taken sink.old;
-      taken_after = K.taken sink.new;
-      writes = K.faults sink.old;
-      writes_after = K.faults sink.new;
-      status = result.status;
-      run = result.run;
+      source = reading S.left S.faults source.old source.new;
+      sink = writing K.taken K.faults sink.old sink.new;
+      ended = result;
     } in Ends call }
 {
     match read_words(words) {

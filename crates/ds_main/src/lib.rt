@@ -11,6 +11,7 @@ mod input;
 mod instrument;
 mod job;
 mod laws;
+mod no_module;
 mod pace;
 mod refuse;
 mod replay;

@@ -5,8 +5,8 @@ ghost use Rattle.ds_small.specs.Module.{IsWellFormed};
 ghost use Rattle.ds_plain.specs.Explained.{HasEnded, stop_in};
 ghost use Rattle.ds_report.specs.Report.{IsReport};
 ghost use Rattle.ds_main.specs.Input.{function_names};
-ghost use Rattle.ds_main.specs.Run.{run_status};
-ghost use Rattle.ds_main.specs.Ending.{RunEnds};
+ghost use Rattle.ds_main.specs.Status.{run_status};
+ghost use Rattle.ds_main.specs.Ending.{writing, RunEnds};
 
 use crate::accept::names_of;
 use crate::deliver::{DONE, OUT_OF_MEMORY, TRAPPED, deliver};
@@ -45,7 +45,7 @@ fn report_of(alloc: Global, module: &Module, run: &RunRecord) -> Result<Vec<u8>,
 /// Runs a module, as the small one that it is, and writes the report of the run.
 pub fn run_and_report<K: Sink>(alloc: Global, sink: &mut K, module: &Module, small: &Small) -> Ended
     requires { IsWellFormed small.now }
-    ensures { RunEnds «module».now small.now (K.taken sink.old) (K.taken sink.new) (K.faults sink.old) (K.faults sink.new) result.status result.run }
+    ensures { RunEnds «module».now small.now (writing K.taken K.faults sink.old sink.new) result }
 {
     legal_runs_are_plain();
     let Ok(run) = replay_small(alloc, small) else {

@@ -16,4 +16,4 @@ pub returns-in-Instrument : goal.returns-in-Instrument
 returns-in-Instrument g c = answer_ends _ jobs.Instrument canon (λ m. refl) (subst (IsJob (texts c.args.words.now)) c.in-Instrument.is c.in-Ok.ensures.job) c.instrument.ensures
 
 pub returns-in-Err : goal.returns-in-Err
-returns-in-Err g c = usage_ends _ (c.in-Err.ensures.usage.0 (only_usage c.in-Err.field-0)) c.refuse.ensures.empty c.refuse.ensures.told
+returns-in-Err g c = usage_ends _ (c.in-Err.ensures.usage.0 (only_usage c.in-Err.field-0)) c.refuse.ensures

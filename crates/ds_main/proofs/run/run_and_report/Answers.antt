@@ -1,6 +1,6 @@
 use Rattle.std.proofs.Common.{ℕ, List, refl, ap, sym, subst, ◌∙◌, inl, inr}
 use Rattle.ds_main.specs.Input.{function_names}
-use Rattle.ds_main.specs.Run.{run_status}
+use Rattle.ds_main.specs.Status.{run_status}
 use Rattle.ds_report.specs.Report.{IsReport}
 use Rattle.ds_main.proofs.Runs.{run_of_module, delivers_as}
 use Rattle.ds_main.proofs.run.run_and_report.Goals as goal
@@ -15,7 +15,7 @@ returns-in-Ok-report_of g c =
       inr (
         c.as_slice.result.now,
         subst (λ (text : List ℕ). IsReport names run.stops run.traces text) (sym c.as_slice.ensures.value) c.in-Ok-report_of.ensures,
-        delivers_as c.as_slice.result.now _ _ _ _ _ _ _ (c.status_by.ensures ∙ ap run_status c.as_slice-in-Ok-report_of.ensures) c.deliver.ensures,
+        delivers_as c.as_slice.result.now _ _ _ _ (c.status_by.ensures ∙ ap run_status c.as_slice-in-Ok-report_of.ensures) c.deliver.ensures,
       ),
     )
 
