@@ -20,13 +20,16 @@ use Rattle.ds_main.specs.Refusal.{IsOtherForm}
 use Rattle.ds_main.specs.Text.{IsTextOf}
 use Rattle.ds_main.specs.Run.{IsEmpty, IsRunOfModule, IsRunOfInput}
 use Rattle.ds_main.specs.Due.{IsDue, IsInputFault, IsOfModule}
-use Rattle.ds_main.specs.Ending.{Reading, Writing, Call, ReadRose, IsReadOut, Faults, Refused, RefusedInPart, HasRun, Reported, ReportedInPart, HasAnswer, Answered, AnsweredInPart, OutOfMemory, Ends}
-use Rattle.ds_main.specs.Ending.{Delivers, Unwritten, FaultEnds, IsInputOf, RunEnds, ModuleEnds, Stops, ReplayEnds, AnswerEnds}
+use Rattle.ds_main.specs.Ending.{Reading, Writing, Call, ReadRose, IsReadOut, Faults, Refused, RefusedInPart, HasRun}
+use Rattle.ds_main.specs.Ending.{Reported, ReportedInPart, HasAnswer, Answered, AnsweredInPart, OutOfMemory, Ends}
+use Rattle.ds_main.specs.Ending.{Delivers, Unwritten, FaultEnds, IsInputOf, RunEnds, ModuleEnds, Stops, ReplayEnds}
+use Rattle.ds_main.specs.Ending.{AnswerEnds}
 use Rattle.ds_main.specs.Stopped.{Explains, StoppedBy}
 use Rattle.ds_main.proofs.Inputs.{held_bytes, read_out}
 
 -- by how the call ended
-pub by_ending : (call : Call) (P : Type 0) → (Refused call → P) → (RefusedInPart call → P) → (Reported call → P) → (ReportedInPart call → P) → (Answered call → P) → (AnsweredInPart call → P)
+pub by_ending : (call : Call) (P : Type 0) → (Refused call → P) → (RefusedInPart call → P) → (Reported call → P)
+    → (ReportedInPart call → P) → (Answered call → P) → (AnsweredInPart call → P)
     → (OutOfMemory call → P) → Ends call → P
 by_ending call P a b c d e f g (inl x) = a x
 by_ending call P a b c d e f g (inr (inl x)) = b x
@@ -54,11 +57,14 @@ answered call x = inr (inr (inr (inr (inl x))))
 answered_in_part : (call : Call) → AnsweredInPart call → Ends call
 answered_in_part call x = inr (inr (inr (inr (inr (inl x)))))
 
-out_of_memory : (call : Call) → Unwritten call.sink call.ended.status → IsEmpty call.ended.run ⊎ (IsJob call.words Replay × (m : Module) × IsRunOfInput call.source.left m call.ended.run) → Ends call
+out_of_memory : (call : Call) → Unwritten call.sink call.ended.status
+    → IsEmpty call.ended.run
+    ⊎ (IsJob call.words Replay × (m : Module) × IsRunOfInput call.source.left m call.ended.run) → Ends call
 out_of_memory call u run = inr (inr (inr (inr (inr (inr (record { status = u.0; nothing = u.1; run = run }))))))
 
 -- a fault of the input is due where there is a job
-due : (words : List (List ℕ)) (left : Option (List ℕ)) (read_rose : Type 0) (fault : Fault) (job : Job) → IsJob words job → IsInputFault job left read_rose fault → IsDue words left read_rose fault
+due : (words : List (List ℕ)) (left : Option (List ℕ)) (read_rose : Type 0) (fault : Fault) (job : Job)
+    → IsJob words job → IsInputFault job left read_rose fault → IsDue words left read_rose fault
 due words left read_rose Usage job is input = absurd input.1
 due words left read_rose Read job is input = (job, is, input)
 due words left read_rose TooLong job is input = (job, is, input)
@@ -67,13 +73,18 @@ due words left read_rose (Shape fault) job is input = (job, is, input)
 due words left read_rose (Check fault names) job is input = (job, is, input)
 due words left read_rose OtherForm job is input = (job, is, input)
 
-fault_ends : (call : Call) (fault : Fault) → Faults call fault → (IsOfModule fault → IsReadOut call.source) → FaultEnds fault call.sink call.ended → Ends call
-fault_ends call fault is read (empty, inl (inl told)) = refused call (record { fault = fault; due = is; read = read; status = told.0; written = told.1; empty = empty })
-fault_ends call fault is read (empty, inl (inr told)) = refused_in_part call (record { fault = fault; due = is; read = read; status = told.0; rose = told.1; written = told.2; empty = empty })
+fault_ends : (call : Call) (fault : Fault) → Faults call fault → (IsOfModule fault → IsReadOut call.source)
+    → FaultEnds fault call.sink call.ended → Ends call
+fault_ends call fault is read (empty, inl (inl told)) =
+    refused call (record { fault = fault; due = is; read = read; status = told.0; written = told.1; empty = empty })
+fault_ends call fault is read (empty, inl (inr told)) =
+    refused_in_part call
+    (record { fault = fault; due = is; read = read; status = told.0; rose = told.1; written = told.2; empty = empty })
 fault_ends call fault is read (empty, inr unwritten) = out_of_memory call unwritten (inl empty)
 
 -- a text that was delivered is one that is the same
-pub delivers_text : (text same : List ℕ) (done : ℕ) (sink : Writing) (status : ℕ) → text ≡ same → Delivers text done sink status → Delivers same done sink status
+pub delivers_text : (text same : List ℕ) (done : ℕ) (sink : Writing) (status : ℕ) → text ≡ same
+    → Delivers text done sink status → Delivers same done sink status
 delivers_text text same done sink status is told = subst (λ (t : List ℕ). Delivers t done sink status) is told
 
 -- the words have one fault
@@ -85,27 +96,43 @@ pub usage_ends : (call : Call) → NoJob call.words → FaultEnds Usage call.sin
 usage_ends call none told = fault_ends call Usage none (λ of. absurd of) told
 
 stop_ends : (call : Call) (job : Job) → IsJob call.words job → Stops job call.source call.sink call.ended → Ends call
-stop_ends call job is (inl x) = fault_ends call x.0 (due call.words call.source.left (ReadRose call.source) x.0 job is x.1) x.2 x.3
+stop_ends call job is (inl x) =
+    fault_ends call x.0 (due call.words call.source.left (ReadRose call.source) x.0 job is x.1) x.2 x.3
 stop_ends call job is (inr x) = out_of_memory call x.0 (inl x.1)
 
 -- the module that was read is that of the input
 of_input : (source : Reading) (m : Module) → IsInputOf source m → IsModuleOfInput source.left m
-of_input source m input = record { bytes = input.0; held = λ bytes held. sym (held_bytes source.left source.left_after input.0 bytes input.1 held); spelled = input.2 }
+of_input source m input =
+    record {
+      bytes = input.0;
+      held = λ bytes held. sym (held_bytes source.left source.left_after input.0 bytes input.1 held);
+      spelled = input.2;
+    }
 
-run_of_input : (call : Call) (m : Module) (s : small.Module) → IsInputOf call.source m → small_of m ≡ Some s → IsRunOfModule s call.ended.run → IsRunOfInput call.source.left m call.ended.run
-run_of_input call m s input form run = record { of_input = of_input call.source m input; as_small = s; form = form; run_of = run }
+run_of_input : (call : Call) (m : Module) (s : small.Module) → IsInputOf call.source m → small_of m ≡ Some s
+    → IsRunOfModule s call.ended.run → IsRunOfInput call.source.left m call.ended.run
+run_of_input call m s input form run =
+    record { of_input = of_input call.source m input; as_small = s; form = form; run_of = run }
 
-run_ends : (call : Call) (m : Module) (s : small.Module) → IsJob call.words Replay → IsInputOf call.source m → small_of m ≡ Some s → RunEnds m s call.sink call.ended → Ends call
+run_ends : (call : Call) (m : Module) (s : small.Module) → IsJob call.words Replay → IsInputOf call.source m
+    → small_of m ≡ Some s → RunEnds m s call.sink call.ended → Ends call
 run_ends call m s job input form (inl x) = out_of_memory call x.0 (inl x.1)
 run_ends call m s job input form (inr x) =
     elim x.1 [
       | inl unwritten ↦ out_of_memory call unwritten (inr (job, m, run_of_input call m s input form x.0))
       | inr y ↦
           let ran : HasRun call y.0 =
-          record { job = job; input_module = m; run = run_of_input call m s input form x.0; read = read_out call.source input.0 input.1; report = y.1 } in
+          record {
+            job = job;
+            input_module = m;
+            run = run_of_input call m s input form x.0;
+            read = read_out call.source input.0 input.1;
+            report = y.1;
+          } in
           elim y.2 [
             | inl told ↦ reported call (record { text = y.0; ran = ran; status = told.0; written = told.1 })
-            | inr told ↦ reported_in_part call (record { text = y.0; ran = ran; status = told.0; rose = told.1; written = told.2 })
+            | inr told ↦ reported_in_part call
+                (record { text = y.0; ran = ran; status = told.0; rose = told.1; written = told.2 })
           ]
     ]
 
@@ -114,29 +141,47 @@ replay_ends call job (inl x) = stop_ends call Replay job x
 replay_ends call job (inr x) = run_ends call x.0 x.1 job x.2 x.3 x.4
 
 -- how a job ends that writes this text of each module
-pub answer_ends : (call : Call) (job : Job) (text : Module → List ℕ) → ((m : Module) → IsTextOf job m (text m)) → IsJob call.words job → AnswerEnds job text call.source call.sink call.ended → Ends call
+pub answer_ends : (call : Call) (job : Job) (text : Module → List ℕ) → ((m : Module) → IsTextOf job m (text m))
+    → IsJob call.words job → AnswerEnds job text call.source call.sink call.ended → Ends call
 answer_ends call job text text_of is (inl x) = stop_ends call job is x
 answer_ends call job text text_of is (inr x) =
     let input = x.1 in
     let answer : HasAnswer call (text x.0) =
-    record { job = job; is_job = is; input_module = x.0; of_input = of_input call.source x.0 input; read = read_out call.source input.0 input.1; text_of = text_of x.0; empty = x.2 } in
+    record {
+      job = job;
+      is_job = is;
+      input_module = x.0;
+      of_input = of_input call.source x.0 input;
+      read = read_out call.source input.0 input.1;
+      text_of = text_of x.0;
+      empty = x.2;
+    } in
     elim x.3 [
       | inl told ↦ answered call (record { text = text x.0; answer = answer; status = told.0; written = told.1 })
-      | inr told ↦ answered_in_part call (record { text = text x.0; answer = answer; status = told.0; rose = told.1; written = told.2 })
+      | inr told ↦ answered_in_part call
+          (record { text = text x.0; answer = answer; status = told.0; rose = told.1; written = told.2 })
     ]
 
 -- an input that gives no module ends the job
-pub stopped : (job : Job) (source : Reading) (sink : Writing) (ended : Ended) (why : NoModule) → Explains source why → StoppedBy why sink ended → Stops job source sink ended
+pub stopped : (job : Job) (source : Reading) (sink : Writing) (ended : Ended) (why : NoModule) → Explains source why
+    → StoppedBy why sink ended → Stops job source sink ended
 stopped job source sink ended (none.Refused fault) explained by = inl (fault, explained.0 job, explained.1, by)
 stopped job source sink ended none.Memory explained by = inr by
 
 -- what is known of the bytes that were read is known of those that the source held
-held_by : (source : Reading) (given : List ℕ) (P : List ℕ → Type 0) → GivesAll source.left given source.left_after → P given → Held source.left P
+held_by : (source : Reading) (given : List ℕ) (P : List ℕ → Type 0) → GivesAll source.left given source.left_after
+    → P given → Held source.left P
 held_by source given P all is bytes e = subst P (held_bytes source.left source.left_after given bytes all e) is
 
 -- how the job ends that has this module
-pub module_ends : (source : Reading) (sink : Writing) (ended : Ended) (m : Module) → IsInputOf source m → ModuleEnds m sink ended → ReplayEnds source sink ended
+pub module_ends : (source : Reading) (sink : Writing) (ended : Ended) (m : Module) → IsInputOf source m
+    → ModuleEnds m sink ended → ReplayEnds source sink ended
 module_ends source sink ended m input (inl x) =
-    inl (inl (OtherForm, ((λ want. want), (tt, held_by source input.0 IsOtherForm input.1 (m, input.2, x.0))), (λ of. read_out source input.0 input.1), x.1))
+    inl (inl (
+      OtherForm,
+      ((λ want. want), (tt, held_by source input.0 IsOtherForm input.1 (m, input.2, x.0))),
+      (λ of. read_out source input.0 input.1),
+      x.1,
+    ))
 module_ends source sink ended m input (inr (inl x)) = inl (inr x)
 module_ends source sink ended m input (inr (inr x)) = inr (m, x.0, input, x.1, x.2)

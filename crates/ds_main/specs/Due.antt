@@ -46,8 +46,8 @@ IsInputFault job left read_rose fault = (IsWantOfMemory fault → ⊥) × HasInp
 abbrev pub IsJobFault : List (List ℕ) → Option (List ℕ) → (read_rose : Type 0) → Fault → Type 0
 IsJobFault words left read_rose fault = (job : Job) × IsJob words job × IsInputFault job left read_rose fault
 
--- The fault is the first that stands, in the order in which they are looked for: the words, the reading, the length, the text, the layout, the other
--- rules, the stage's form.
+-- The fault is the first that stands, in the order in which they are looked for: the words, the reading, the length,
+-- the text, the layout, the other rules, the stage's form.
 abbrev pub IsDue : List (List ℕ) → Option (List ℕ) → (read_rose : Type 0) → Fault → Type 0
 IsDue words left read_rose Usage = NoJob words
 IsDue words left read_rose Read = IsJobFault words left read_rose Read
@@ -67,9 +67,11 @@ IsOfModule (Shape fault) = Unit {0}
 IsOfModule (Check fault names) = Unit {0}
 IsOfModule OtherForm = Unit {0}
 
--- this text was due: the line of the fault that ended the call, where nothing was run; the report of the run; or the text of another job
+-- this text was due: the line of the fault that ended the call, where nothing was run; the report of the run; or the
+-- text of another job
 abbrev pub IsDueText : List (List ℕ) → Option (List ℕ) → (read_rose : Type 0) → RunRecord → List ℕ → Type 0
 IsDueText words left read_rose run text =
     ((fault : Fault) × IsDue words left read_rose fault × IsEmpty run × (text ≡ fault_text fault))
-    ⊎ ((IsJob words Replay × (m : Module) × IsRunOfInput left m run × IsReport (function_names m) run.stops run.traces text)
+    ⊎ ((IsJob words Replay × (m : Module) × IsRunOfInput left m run
+    × IsReport (function_names m) run.stops run.traces text)
     ⊎ ((job : Job) × IsJob words job × (m : Module) × IsModuleOfInput left m × IsEmpty run × IsTextOf job m text))

@@ -39,11 +39,13 @@ pub record Writing : Type 0 where
 
 -- by what a source tells of itself before and after
 abbrev pub reading : {S : Type 0} → (left : S → Option (List ℕ)) → (faults : S → ℕ) → (old new : S) → Reading
-reading left faults old new = record { left = left old; left_after = left new; faults = faults old; faults_after = faults new }
+reading left faults old new =
+    record { left = left old; left_after = left new; faults = faults old; faults_after = faults new }
 
 -- by what a sink tells of itself before and after
 abbrev pub writing : {K : Type 0} → (taken : K → Option (List ℕ)) → (faults : K → ℕ) → (old new : K) → Writing
-writing taken faults old new = record { taken = taken old; taken_after = taken new; faults = faults old; faults_after = faults new }
+writing taken faults old new =
+    record { taken = taken old; taken_after = taken new; faults = faults old; faults_after = faults new }
 
 -- a call: its words, its source, its sink, and its status and record
 pub record Call : Type 0 where
@@ -141,18 +143,21 @@ pub record AnsweredInPart (call : Call) : Type 0 where
 pub record OutOfMemory (call : Call) : Type 0 where
   pub status : call.ended.status ≡ 6
   pub nothing : call.sink.taken_after ≡ call.sink.taken
-  pub run : IsEmpty call.ended.run ⊎ (IsJob call.words Replay × (m : Module) × IsRunOfInput call.source.left m call.ended.run)
+  pub run : IsEmpty call.ended.run
+      ⊎ (IsJob call.words Replay × (m : Module) × IsRunOfInput call.source.left m call.ended.run)
 
 -- every call ends so
 abbrev pub Ends : Call → Type 0
-Ends call = Refused call ⊎ RefusedInPart call ⊎ Reported call ⊎ ReportedInPart call ⊎ Answered call ⊎ AnsweredInPart call ⊎ OutOfMemory call
+Ends call = Refused call ⊎ RefusedInPart call ⊎ Reported call ⊎ ReportedInPart call ⊎ Answered call
+    ⊎ AnsweredInPart call ⊎ OutOfMemory call
 
 -- HOW THE PARTS OF A CALL END
 
 -- the text was written and the status is the one that stands for that, or the sink failed in the middle of it
 abbrev pub Delivers : List ℕ → (done : ℕ) → Writing → (status : ℕ) → Type 0
 Delivers text done sink status =
-    ((status ≡ done) × Takes sink.taken text sink.taken_after) ⊎ ((status ≡ 5) × WriteRose sink × TakesFront sink.taken text sink.taken_after)
+    ((status ≡ done) × Takes sink.taken text sink.taken_after)
+    ⊎ ((status ≡ 5) × WriteRose sink × TakesFront sink.taken text sink.taken_after)
 
 -- memory ran out before anything was written
 abbrev pub Unwritten : Writing → (status : ℕ) → Type 0
@@ -164,7 +169,8 @@ MemoryEnds sink ended = Unwritten sink ended.status × IsEmpty ended.run
 
 -- nothing was run, and the line of the fault was delivered, or memory ran out
 abbrev pub FaultEnds : Fault → Writing → Ended → Type 0
-FaultEnds fault sink ended = IsEmpty ended.run × (Delivers (fault_text fault) (status_of fault) sink ended.status ⊎ Unwritten sink ended.status)
+FaultEnds fault sink ended =
+    IsEmpty ended.run × (Delivers (fault_text fault) (status_of fault) sink ended.status ⊎ Unwritten sink ended.status)
 
 -- the source was read to its end, and what it held spells this module
 abbrev pub IsSpelledBy : Reading → Module → Type 0
@@ -179,7 +185,8 @@ abbrev pub RunEnds : Module → small.Module → Writing → Ended → Type 0
 RunEnds m s sink ended =
     MemoryEnds sink ended
     ⊎ (IsRunOfModule s ended.run × (Unwritten sink ended.status
-    ⊎ ((text : List ℕ) × IsReport (function_names m) ended.run.stops ended.run.traces text × Delivers text (run_status ended.run.stops) sink ended.status)))
+    ⊎ ((text : List ℕ) × IsReport (function_names m) ended.run.stops ended.run.traces text
+    × Delivers text (run_status ended.run.stops) sink ended.status)))
 
 -- how the job `replay` ends once it has its module: the module has another form, memory ran out, or the module was run
 abbrev pub ModuleEnds : Module → Writing → Ended → Type 0
@@ -191,7 +198,8 @@ ModuleEnds m sink ended =
 -- the call ends by a fault of the input, or memory ran out before anything was run
 abbrev pub Stops : Job → Reading → Writing → Ended → Type 0
 Stops job source sink ended =
-    ((fault : Fault) × IsInputFault job source.left (ReadRose source) fault × (IsOfModule fault → IsReadOut source) × FaultEnds fault sink ended)
+    ((fault : Fault) × IsInputFault job source.left (ReadRose source) fault × (IsOfModule fault → IsReadOut source)
+    × FaultEnds fault sink ended)
     ⊎ MemoryEnds sink ended
 
 -- how the job `replay` ends

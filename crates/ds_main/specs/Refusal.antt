@@ -20,7 +20,8 @@ IsTooLong bytes = longest_input < length bytes
 abbrev pub HasTextFault : ParseFault → List ℕ → Type 0
 HasTextFault fault bytes = (length bytes ≤ longest_input) × HasParseFault bytes fault
 
--- the fault for which the module is not accepted: that of its layout, or, where it has one, the first of the other rules, with the names of its functions
+-- the fault for which the module is not accepted: that of its layout, or, where it has one, the first of the other
+-- rules, with the names of its functions
 abbrev pub HasModuleFault : Fault → Module → Type 0
 HasModuleFault Usage m = ⊥
 HasModuleFault Read m = ⊥

@@ -17,8 +17,8 @@ pub record IsEmpty (run : RunRecord) : Type 0 where
   pub no_order : run.order ≡ None
 
 -- The run is one of the module: at least one order of its recorded steps is legal, and every legal
--- order of them is, without log steps, a run of the plain machine on that module. The recorded order is a legal one of main's steps alone, and no other
--- thread was started.
+-- order of them is, without log steps, a run of the plain machine on that module. The recorded order is a legal one of
+-- main's steps alone, and no other thread was started.
 pub record IsRunOfModule (s : small.Module) (run : RunRecord) : Type 0 where
   pub sixteen_stops : length run.stops ≡ 16
   pub sixteen_traces : length run.traces ≡ 16
@@ -27,7 +27,8 @@ pub record IsRunOfModule (s : small.Module) (run : RunRecord) : Type 0 where
   pub main_alone : IsSomeAnd run.order (λ order. order ≡ replicate (length order) 0)
   pub others_idle : drop 1 run.stops ≡ replicate 15 Idle
 
--- the run is one of this module, as a small one; it is the accepted module of the bytes that the source held, where it tells them
+-- the run is one of this module, as a small one; it is the accepted module of the bytes that the source held, where it
+-- tells them
 pub record IsRunOfInput (left : Option (List ℕ)) (m : Module) (run : RunRecord) : Type 0 where
   pub of_input : IsModuleOfInput left m
   pub as_small : small.Module

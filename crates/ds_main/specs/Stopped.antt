@@ -20,9 +20,11 @@ abbrev pub ExplainsModule : Module → NoModule → Type 0
 ExplainsModule m (Refused fault) = HasModuleFault fault m
 ExplainsModule m Memory = Unit {0}
 
--- the input has the fault, whatever the job is, and was read to its end before one of the module was looked for; want of memory needs no cause
+-- the input has the fault, whatever the job is, and was read to its end before one of the module was looked for; want
+-- of memory needs no cause
 abbrev pub Explains : Reading → NoModule → Type 0
-Explains source (Refused fault) = ((job : Job) → IsInputFault job source.left (ReadRose source) fault) × (IsOfModule fault → IsReadOut source)
+Explains source (Refused fault) =
+    ((job : Job) → IsInputFault job source.left (ReadRose source) fault) × (IsOfModule fault → IsReadOut source)
 Explains source Memory = Unit {0}
 
 -- the line of the fault was delivered, or memory ran out

@@ -15,7 +15,8 @@ use std::alloc::Global;
 
 /// Reads a module and writes its canonical text.
 pub fn instrument<S: Source, K: Sink>(alloc: Global, source: &mut S, sink: &mut K) -> Ended
-    ensures { AnswerEnds jobs.Instrument canon (reading S.left S.faults source.old source.new) (writing K.taken K.faults sink.old sink.new) result }
+    ensures { AnswerEnds jobs.Instrument canon (reading S.left S.faults source.old source.new)
+        (writing K.taken K.faults sink.old sink.new) result }
 {
     let module = match accepted_module(alloc, source) {
         Ok(module) => module,

@@ -26,7 +26,8 @@ fn run_module<K: Sink>(alloc: Global, sink: &mut K, module: &Module) -> Ended
 
 /// Reads a module, runs it and reports the run.
 pub fn replay<S: Source, K: Sink>(alloc: Global, source: &mut S, sink: &mut K) -> Ended
-    ensures { ReplayEnds (reading S.left S.faults source.old source.new) (writing K.taken K.faults sink.old sink.new) result }
+    ensures { ReplayEnds (reading S.left S.faults source.old source.new) (writing K.taken K.faults sink.old sink.new)
+        result }
 {
     match accepted_module(alloc, source) {
         Ok(module) => run_module(alloc, sink, &module),

@@ -22,8 +22,8 @@ value_of answers (Result k) = slice_index answers k
 abbrev pub null_stop : (main i : ℕ) → Stop
 null_stop main i = Trap (record { place = record { function = main; instruction = i }; kind = BadAddress 0 })
 
--- what instruction i of main, the function of this number, asks for after the answers to the instructions before it: global n is location n, and behind the
--- last instruction main returns
+-- what instruction i of main, the function of this number, asks for after the answers to the instructions before it:
+-- global n is location n, and behind the last instruction main returns
 abbrev pub request_at : (main i : ℕ) → List ℕ → Option SmallOp → Request
 request_at main i answers (Some (Load (Global n))) = requests.Load n
 request_at main i answers (Some (Load Null)) = requests.Finish (null_stop main i)
@@ -34,7 +34,8 @@ request_at main i answers None = requests.Finish (Returned None)
 
 -- What main asks after these answers: each instruction asks once, so the next one is that with the number of answers.
 abbrev pub asked_of : Module → List ℕ → Asked
-asked_of small answers = Asks 1 (request_at small.main (length answers) answers (slice_get small.code (length answers)))
+asked_of small answers =
+    Asks 1 (request_at small.main (length answers) answers (slice_get small.code (length answers)))
 
 -- the program of a module; only main is ever started
 abbrev pub program_of : Module → Program

@@ -1,5 +1,6 @@
 -- The report of a run.
-use Rattle.std.specs.Prelude.{◌≡◌, ℕ, ◌+◌, List, [], ◌∷◌, ◌++◌, length, Some, None, Bool, true, false, count_by, codes, decimal}
+use Rattle.std.specs.Prelude.{◌≡◌, ℕ, ◌+◌, List, [], ◌∷◌, ◌++◌, length, Some, None, Bool, true, false, count_by, codes}
+use Rattle.std.specs.Prelude.{decimal}
 use Rattle.std.specs.Fmt.{digits, signed_decimal}
 use Rattle.std.specs.Int.{cast_signed, w32, w64}
 use Rattle.std.specs.List.{flat_map}
@@ -30,7 +31,8 @@ trap_text (BadAddress address) = codes "bad address " ++ address_text address
 -- the line of a thread that trapped, by the names of all functions of the module in the order of the text
 abbrev pub trap_line : List Name → ℕ → traps.Trap → List ℕ
 trap_line names thread trap =
-    codes "trap thread " ++ decimal thread ++ function_text names trap.place.function ++ codes " instruction " ++ decimal trap.place.instruction
+    codes "trap thread " ++ decimal thread ++ function_text names trap.place.function ++ codes " instruction "
+    ++ decimal trap.place.instruction
     ++ codes ": " ++ trap_text trap.kind ++ codes "\n"
 
 -- the line of a thread that did not come to the end of its function
@@ -65,11 +67,13 @@ is_trap (Trap trap) = true
 -- the last line, by how main ended and the numbers of prints and of threads that trapped
 abbrev pub summary_line : Stop → ℕ → ℕ → List ℕ
 summary_line main prints traps =
-    codes "main " ++ how_text main ++ codes "; prints " ++ decimal prints ++ codes " mallocs 0 frees 0 notes 0 marks 0 traps " ++ decimal traps ++ codes "\n"
+    codes "main " ++ how_text main ++ codes "; prints " ++ decimal prints
+    ++ codes " mallocs 0 frees 0 notes 0 marks 0 traps " ++ decimal traps ++ codes "\n"
 
--- The report of a run of the module whose functions have these names: a line for each print, in the order of their numbers; the stop lines in the order
--- of the threads; and the summary.
+-- The report of a run of the module whose functions have these names: a line for each print, in the order of their
+-- numbers; the stop lines in the order of the threads; and the summary.
 abbrev pub IsReport : List Name → List Stop → List (List Step) → List ℕ → Type 0
 IsReport names stops traces text =
     (prints : List Print) × IsInOrder (all_prints traces) prints
-    × (text ≡ flat_map print_line prints ++ stop_lines names 0 stops ++ summary_line (stop_in stops 0) (length prints) (count_by is_trap stops))
+    × (text ≡ flat_map print_line prints ++ stop_lines names 0 stops ++ summary_line (stop_in stops 0) (length prints)
+    (count_by is_trap stops))

@@ -3,7 +3,8 @@
 ghost use Rattle.std.specs.Prelude.{◌≡◌, ◌++◌, length, count_by, OnOk, IfOk};
 ghost use Rattle.std.specs.List.{flat_map};
 ghost use Rattle.ds_plain.specs.Explained.{HasEnded, stop_in};
-ghost use Rattle.ds_report.specs.Report.{print_line, trap_text, trap_line, stop_line, stop_lines, how_text, is_trap, summary_line, IsReport};
+ghost use Rattle.ds_report.specs.Report.{print_line, trap_text, trap_line, stop_line, stop_lines, how_text, is_trap};
+ghost use Rattle.ds_report.specs.Report.{summary_line, IsReport};
 
 use crate::prints::{Print, in_order};
 use crate::text::{push, push_address, push_function, push_number};

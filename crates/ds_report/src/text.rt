@@ -40,8 +40,8 @@ fn name_at(names: &[Name], place: usize) -> Option<&Name>
     names.get(place)
 }
 
-/// Adds in which function something is, by the names of all functions in the order of the text. A number that no function has is
-/// told by nothing.
+/// Adds in which function something is, by the names of all functions in the order of the text. A number that no
+/// function has is told by nothing.
 pub fn push_function(text: &mut Vec<u8>, names: &[Name], f: u32) -> Result<(), AllocError>
     ensures { OnOk result (text.new.items ≡ text.old.items ++ function_text names.now f) }
 {

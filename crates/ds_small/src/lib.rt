@@ -65,8 +65,8 @@ impl Model for Small {
 impl Small {
     /// The module with these globals, whose `main` runs these instructions and returns.
     ///
-    /// `main` is its number among all functions, declared ones too, from 0 in the order of the text. A global is the value that
-    /// it begins with, modulo 2^64.
+    /// `main` is its number among all functions, declared ones too, from 0 in the order of the text. A global is the
+    /// value that it begins with, modulo 2^64.
     pub fn new(main: u32, globals: Vec<u64>, code: Vec<SmallOp>) -> Self
         ensures { result ≡ record { main = main; globals = globals.items; code = code.items } }
     {

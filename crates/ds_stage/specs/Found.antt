@@ -1,4 +1,4 @@
--- What the code finds, by what the form says.
+-- Helpers: what the code finds, by what the form says. No clause of a public call speaks of them.
 use Rattle.std.specs.Prelude.{◌≡◌, ℕ, ◌⊎◌, List, Option, Some, None, Result, Ok, Err}
 use Rattle.std.specs.BTreeMap.{BTreeMap, get_by}
 use Rattle.std.specs.Cmp.Lexicographic.{slice_cmp}

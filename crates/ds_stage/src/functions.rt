@@ -62,7 +62,8 @@ fn main_block(function: &Function) -> Option<&Block>
 
 /// `main`, where the function of this number is that and has one block.
 fn main_at(number: u32, function: &Function) -> Option<Main<'_>>
-    ensures { option_map (λ main. record { number = main.number; block = main.block.now }) result ≡ form.main_at number function.now }
+    ensures { option_map (λ main. record { number = main.number; block = main.block.now }) result ≡ form.main_at number
+        function.now }
 {
     match main_block(function) {
         Some(block) => Some(Main { number, block }),
@@ -72,7 +73,8 @@ fn main_at(number: u32, function: &Function) -> Option<Main<'_>>
 
 /// `main` in two functions, of which the other is `print_i64`.
 pub fn body_of(functions: &[Function]) -> Option<Main<'_>>
-    ensures { option_map (λ main. record { number = main.number; block = main.block.now }) result ≡ form.body_of functions.now }
+    ensures { option_map (λ main. record { number = main.number; block = main.block.now }) result ≡ form.body_of
+        functions.now }
 {
     match functions {
         [first, second] => {

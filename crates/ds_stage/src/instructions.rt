@@ -123,7 +123,8 @@ fn printed<'a>(locals: &Names<'a>, args: &'a [Operand]) -> Option<SmallOp>
 
 /// A store, or a print.
 fn effect_of<'a>(globals: &Names<'a>, locals: &Names<'a>, op: &'a Op) -> Option<SmallOp>
-    ensures { result ≡ form.effect_of (numbers_in globals.now.texts globals.now.numbers) (numbers_in locals.now.texts locals.now.numbers) op.now }
+    ensures { result ≡ form.effect_of (numbers_in globals.now.texts globals.now.numbers)
+        (numbers_in locals.now.texts locals.now.numbers) op.now }
 {
     match op {
         Op::Store { ty, value, at } => {
@@ -173,7 +174,8 @@ fn op_of<'a>(
     result_name: &'a Option<Name>,
     op: &'a Op,
 ) -> Option<SmallOp>
-    ensures { result ≡ form.op_of (numbers_in globals.now.texts globals.now.numbers) label.now (numbers_in locals.now.texts locals.now.numbers) result_name.now op.now }
+    ensures { result ≡ form.op_of (numbers_in globals.now.texts globals.now.numbers) label.now
+        (numbers_in locals.now.texts locals.now.numbers) result_name.now op.now }
 {
     match result_name {
         None => effect_of(globals, locals, op),
@@ -189,7 +191,9 @@ fn op_of<'a>(
 
 /// Lets a name, where there is one, stand for a number.
 fn define<'a>(names: &mut Names<'a>, name: &'a Option<Name>, number: u32) -> Result<(), AllocError>
-    ensures { OnOk result (numbers_in names.new.texts names.new.numbers ≡ form.defined (numbers_in names.old.texts names.old.numbers) name.now number) }
+    ensures { OnOk result
+        (numbers_in names.new.texts names.new.numbers ≡ form.defined (numbers_in names.old.texts names.old.numbers)
+        name.now number) }
 {
     match name {
         Some(name) => names.define(name, number),
@@ -200,8 +204,12 @@ fn define<'a>(names: &mut Names<'a>, name: &'a Option<Name>, number: u32) -> Res
 /// These instructions, and one that gives this name, where it gives one.
 fn with_op<'a>(code: Code<'a>, name: &'a Option<Name>, op: SmallOp) -> Result<Code<'a>, AllocError>
     requires { length code.ops.items < 199999 }
-    ensures { IfOk result (λ more. record { names = numbers_in more.names.texts more.names.numbers; ops = more.ops.items } ≡
-        form.with_op (record { names = numbers_in code.entry.names.texts code.entry.names.numbers; ops = code.entry.ops.items }) name.now op) }
+    ensures { IfOk result
+        (λ more. record { names = numbers_in more.names.texts more.names.numbers; ops = more.ops.items } ≡
+        form.with_op (record {
+          names = numbers_in code.entry.names.texts code.entry.names.numbers;
+          ops = code.entry.ops.items;
+        }) name.now op) }
 {
     let mut code = code;
     let number = code.ops.as_slice().len() as u32;
@@ -220,7 +228,8 @@ fn code_more<'a>(
 ) -> Result<Code<'a>, StageFault>
     ensures { Finds (λ c. record { names = numbers_in c.names.texts c.names.numbers; ops = c.ops.items }) result
         (form.code_more (numbers_in globals.now.texts globals.now.numbers) label.now
-        (record { names = numbers_in code.entry.names.texts code.entry.names.numbers; ops = code.entry.ops.items }) instr.now) }
+        (record { names = numbers_in code.entry.names.texts code.entry.names.numbers; ops = code.entry.ops.items })
+        instr.now) }
 {
     if code.ops.as_slice().len() >= MAX_INSTRUCTIONS {
         return Err(StageFault::OtherForm);
@@ -234,7 +243,8 @@ fn code_more<'a>(
 /// These instructions, where nothing stands behind the return.
 fn returned<'a>(code: Code<'a>, rest: &[Instr]) -> Result<Code<'a>, StageFault>
     ensures { Finds (λ c. record { names = numbers_in c.names.texts c.names.numbers; ops = c.ops.items }) result
-        (form.returned rest.now (record { names = numbers_in code.entry.names.texts code.entry.names.numbers; ops = code.entry.ops.items })) }
+        (form.returned rest.now
+        (record { names = numbers_in code.entry.names.texts code.entry.names.numbers; ops = code.entry.ops.items })) }
 {
     match rest {
         [] => Ok(code),
@@ -249,7 +259,8 @@ pub fn code_of<'a>(
     block: &'a Block,
 ) -> Result<Code<'a>, StageFault>
     ensures { Finds (λ c. record { names = numbers_in c.names.texts c.names.numbers; ops = c.ops.items }) result
-        (form.code_of (numbers_in globals.now.texts globals.now.numbers) block.now.name (record { names = form.no_names; ops = [] }) block.now.code) }
+        (form.code_of (numbers_in globals.now.texts globals.now.numbers) block.now.name
+        (record { names = form.no_names; ops = [] }) block.now.code) }
 {
     let instrs = block.code.as_slice();
     let mut code = Code {

@@ -39,7 +39,9 @@ impl<'a> Names<'a> {
 
     /// Lets a name stand for a number.
     pub fn define(&mut self, name: &'a Name, number: u32) -> Result<(), AllocError>
-        ensures { OnOk result (numbers_in self.new.texts self.new.numbers ≡ with_name (numbers_in self.old.texts self.old.numbers) name.now number) }
+        ensures { OnOk result
+            (numbers_in self.new.texts self.new.numbers ≡ with_name (numbers_in self.old.texts self.old.numbers)
+            name.now number) }
     {
         match name {
             Name::Number(n) => {

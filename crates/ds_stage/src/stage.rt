@@ -32,7 +32,8 @@ fn loads(ops: &[SmallOp]) -> usize
 
 /// The small module of these globals and this `main`.
 fn small_with(alloc: Global, defs: &[GlobalDef], main: Main<'_>) -> Result<Small, StageFault>
-    ensures { Finds (λ small. small) result (form.small_with defs.now (record { number = main.entry.number; block = main.entry.block.now })) }
+    ensures { Finds (λ small. small) result
+        (form.small_with defs.now (record { number = main.entry.number; block = main.entry.block.now })) }
 {
     let globals = all_globals(alloc, defs)?;
     let code = code_of(alloc, &globals.names, main.block)?;
@@ -46,7 +47,8 @@ fn small_with(alloc: Global, defs: &[GlobalDef], main: Main<'_>) -> Result<Small
 ///
 /// # Errors
 ///
-/// `OtherForm` exactly where the module has not the form that this stage runs; `Memory` where there is not enough memory.
+/// `OtherForm` exactly where the module has not the form that this stage runs; `Memory` where there is not enough
+/// memory.
 #[tactic(auto, unfolding(crate::specs::Form::small_of))]
 pub fn small_program(alloc: Global, module: &Module) -> Result<Small, StageFault>
     ensures small { IfOk result (λ small. small_of «module».now ≡ Some small) }

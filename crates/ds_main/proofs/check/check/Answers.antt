@@ -11,6 +11,10 @@ returns-in-Ok-accepted_line g c =
     inr (
       c.in-Ok.module,
       c.in-Ok.ensures.found,
-      record { no_stops = c.empty.ensures.stops; no_traces = c.empty.ensures.traces; no_order = c.empty.ensures.order },
+      record {
+        no_stops = c.empty.ensures.stops;
+        no_traces = c.empty.ensures.traces;
+        no_order = c.empty.ensures.order;
+      },
       delivers_text _ _ _ _ _ (c.as_slice.ensures.value ∙ c.in-Ok-accepted_line.ensures) c.deliver.ensures,
     )

@@ -11,15 +11,22 @@ returns-in-Ok-report_of g c =
     let run = c.in-Ok.run' in
     let names = function_names c.args.module.now in
     inr (
-      run_of_module c.legal_runs_are_plain.ensures c.args.small.now run made.record made.order made.main_alone made.stops.0 made.stops.2,
+      run_of_module c.legal_runs_are_plain.ensures c.args.small.now run made.record made.order made.main_alone
+          made.stops.0 made.stops.2,
       inr (
         c.as_slice.result.now,
-        subst (λ (text : List ℕ). IsReport names run.stops run.traces text) (sym c.as_slice.ensures.value) c.in-Ok-report_of.ensures,
-        delivers_as c.as_slice.result.now _ _ _ _ (c.status_by.ensures ∙ ap run_status c.as_slice-in-Ok-report_of.ensures) c.deliver.ensures,
+        subst (λ (text : List ℕ). IsReport names run.stops run.traces text) (sym c.as_slice.ensures.value)
+            c.in-Ok-report_of.ensures,
+        delivers_as c.as_slice.result.now _ _ _ _
+            (c.status_by.ensures ∙ ap run_status c.as_slice-in-Ok-report_of.ensures) c.deliver.ensures,
       ),
     )
 
 pub returns-in-Err : goal.returns-in-Err
 returns-in-Err g c =
     let made = c.in-Ok.ensures in
-    inr (run_of_module c.legal_runs_are_plain.ensures c.args.small.now c.in-Ok.run' made.record made.order made.main_alone made.stops.0 made.stops.2, inl (refl, refl))
+    inr (
+      run_of_module c.legal_runs_are_plain.ensures c.args.small.now c.in-Ok.run' made.record made.order
+          made.main_alone made.stops.0 made.stops.2,
+      inl (refl, refl),
+    )

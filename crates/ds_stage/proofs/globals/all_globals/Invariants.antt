@@ -6,5 +6,8 @@ use Rattle.ds_stage.proofs.globals.all_globals.Given as goal
 
 abbrev pub invariant-loop-def : goal.invariant-loop-def
 invariant-loop-def l =
-    globals_of (record { names = numbers_in l.globals.names.texts l.globals.names.numbers; values = l.globals.values.items }) (drop l.def-index l.fn.defs)
+    globals_of (record {
+      names = numbers_in l.globals.names.texts l.globals.names.numbers;
+      values = l.globals.values.items;
+    }) (drop l.def-index l.fn.defs)
     ≡ globals_of (record { names = no_names; values = [] }) l.fn.defs

@@ -7,5 +7,8 @@ use Rattle.ds_stage.proofs.instructions.code_of.Given as goal
 
 abbrev pub invariant-loop-i : goal.invariant-loop-i
 invariant-loop-i l =
-    form.code_of (numbers_in l.fn.globals.texts l.fn.globals.numbers) l.fn.block.name (record { names = numbers_in l.code.names.texts l.code.names.numbers; ops = l.code.ops.items }) (drop l.i l.fn.block.code)
-    ≡ form.code_of (numbers_in l.fn.globals.texts l.fn.globals.numbers) l.fn.block.name (record { names = no_names; ops = [] }) l.fn.block.code
+    form.code_of (numbers_in l.fn.globals.texts l.fn.globals.numbers) l.fn.block.name
+    (record { names = numbers_in l.code.names.texts l.code.names.numbers; ops = l.code.ops.items })
+    (drop l.i l.fn.block.code)
+    ≡ form.code_of (numbers_in l.fn.globals.texts l.fn.globals.numbers) l.fn.block.name
+    (record { names = no_names; ops = [] }) l.fn.block.code
