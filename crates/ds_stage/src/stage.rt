@@ -3,7 +3,7 @@ ghost use Rattle.std.specs.Prelude.{◌≡◌, ◌⊎◌, None, Some, count_by, 
 ghost use Rattle.ds_small.specs.Module.{is_load, IsWellFormed};
 ghost use Rattle.ds_stage.specs.Form as form;
 ghost use Rattle.ds_stage.specs.Form.{small_of};
-ghost use Rattle.ds_stage.specs.Found.{numbers_in, Finds};
+ghost use Rattle.ds_stage.specs.Found.{Finds};
 
 use crate::fault::StageFault;
 use crate::functions::{Main, body_of};
