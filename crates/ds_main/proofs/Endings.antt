@@ -20,47 +20,33 @@ use Rattle.ds_main.specs.Refusal.{IsOtherForm}
 use Rattle.ds_main.specs.Text.{IsTextOf}
 use Rattle.ds_main.specs.Run.{IsEmpty, IsRunOfModule, IsRunOfInput}
 use Rattle.ds_main.specs.Due.{IsDue, IsInputFault, IsOfModule}
-use Rattle.ds_main.specs.Ending.{Reading, Writing, Call, ReadRose, IsReadOut, Faults, Refused, RefusedInPart, HasRun}
-use Rattle.ds_main.specs.Ending.{Reported, ReportedInPart, HasAnswer, Answered, AnsweredInPart, OutOfMemory, Ends}
-use Rattle.ds_main.specs.Ending.{Delivers, Unwritten, FaultEnds, IsInputOf, RunEnds, ModuleEnds, Stops, ReplayEnds}
-use Rattle.ds_main.specs.Ending.{AnswerEnds}
+use Rattle.ds_main.specs.Ending.{Reading, Writing, Call, ReadRose, IsReadOut, Delivers, Unwritten, Refused, Reported}
+use Rattle.ds_main.specs.Ending.{Answered, OutOfMemory, Ends, FaultEnds, IsInputOf, RunEnds, ModuleEnds, Stops}
+use Rattle.ds_main.specs.Ending.{ReplayEnds, AnswerEnds}
 use Rattle.ds_main.specs.Stopped.{Explains, StoppedBy}
 use Rattle.ds_main.proofs.Inputs.{held_bytes, read_out}
 
 -- by how the call ended
-pub by_ending : (call : Call) (P : Type 0) → (Refused call → P) → (RefusedInPart call → P) → (Reported call → P)
-    → (ReportedInPart call → P) → (Answered call → P) → (AnsweredInPart call → P)
+pub by_ending : (call : Call) (P : Type 0) → (Refused call → P) → (Reported call → P) → (Answered call → P)
     → (OutOfMemory call → P) → Ends call → P
-by_ending call P a b c d e f g (inl x) = a x
-by_ending call P a b c d e f g (inr (inl x)) = b x
-by_ending call P a b c d e f g (inr (inr (inl x))) = c x
-by_ending call P a b c d e f g (inr (inr (inr (inl x)))) = d x
-by_ending call P a b c d e f g (inr (inr (inr (inr (inl x))))) = e x
-by_ending call P a b c d e f g (inr (inr (inr (inr (inr (inl x)))))) = f x
-by_ending call P a b c d e f g (inr (inr (inr (inr (inr (inr x)))))) = g x
+by_ending call P a b c d (inl x) = a x
+by_ending call P a b c d (inr (inl x)) = b x
+by_ending call P a b c d (inr (inr (inl x))) = c x
+by_ending call P a b c d (inr (inr (inr x))) = d x
 
 refused : (call : Call) → Refused call → Ends call
 refused call x = inl x
 
-refused_in_part : (call : Call) → RefusedInPart call → Ends call
-refused_in_part call x = inr (inl x)
-
 reported : (call : Call) → Reported call → Ends call
-reported call x = inr (inr (inl x))
-
-reported_in_part : (call : Call) → ReportedInPart call → Ends call
-reported_in_part call x = inr (inr (inr (inl x)))
+reported call x = inr (inl x)
 
 answered : (call : Call) → Answered call → Ends call
-answered call x = inr (inr (inr (inr (inl x))))
-
-answered_in_part : (call : Call) → AnsweredInPart call → Ends call
-answered_in_part call x = inr (inr (inr (inr (inr (inl x)))))
+answered call x = inr (inr (inl x))
 
 out_of_memory : (call : Call) → Unwritten call.sink call.ended.status
     → IsEmpty call.ended.run
     ⊎ (IsJob call.words Replay × (m : Module) × IsRunOfInput call.source.left m call.ended.run) → Ends call
-out_of_memory call u run = inr (inr (inr (inr (inr (inr (record { status = u.0; nothing = u.1; run = run }))))))
+out_of_memory call unwritten run = inr (inr (inr (record { unwritten = unwritten; run = run })))
 
 -- a fault of the input is due where there is a job
 due : (words : List (List ℕ)) (left : Option (List ℕ)) (read_rose : Type 0) (fault : Fault) (job : Job)
@@ -73,13 +59,10 @@ due words left read_rose (Shape fault) job is input = (job, is, input)
 due words left read_rose (Check fault names) job is input = (job, is, input)
 due words left read_rose OtherForm job is input = (job, is, input)
 
-fault_ends : (call : Call) (fault : Fault) → Faults call fault → (IsOfModule fault → IsReadOut call.source)
-    → FaultEnds fault call.sink call.ended → Ends call
-fault_ends call fault is read (empty, inl (inl told)) =
-    refused call (record { fault = fault; due = is; read = read; status = told.0; written = told.1; empty = empty })
-fault_ends call fault is read (empty, inl (inr told)) =
-    refused_in_part call
-    (record { fault = fault; due = is; read = read; status = told.0; rose = told.1; written = told.2; empty = empty })
+fault_ends : (call : Call) (fault : Fault) → IsDue call.words call.source.left (ReadRose call.source) fault
+    → (IsOfModule fault → IsReadOut call.source) → FaultEnds fault call.sink call.ended → Ends call
+fault_ends call fault is read (empty, inl told) =
+    refused call (record { fault = fault; due = is; read = read; empty = empty; told = told })
 fault_ends call fault is read (empty, inr unwritten) = out_of_memory call unwritten (inl empty)
 
 -- a text that was delivered is one that is the same
@@ -118,22 +101,18 @@ run_ends : (call : Call) (m : Module) (s : small.Module) → IsJob call.words Re
     → small_of m ≡ Some s → RunEnds m s call.sink call.ended → Ends call
 run_ends call m s job input form (inl x) = out_of_memory call x.0 (inl x.1)
 run_ends call m s job input form (inr x) =
+    let run : IsRunOfInput call.source.left m call.ended.run = run_of_input call m s input form x.0 in
     elim x.1 [
-      | inl unwritten ↦ out_of_memory call unwritten (inr (job, m, run_of_input call m s input form x.0))
-      | inr y ↦
-          let ran : HasRun call y.0 =
-          record {
-            job = job;
-            input_module = m;
-            run = run_of_input call m s input form x.0;
-            read = read_out call.source input.0 input.1;
-            report = y.1;
-          } in
-          elim y.2 [
-            | inl told ↦ reported call (record { text = y.0; ran = ran; status = told.0; written = told.1 })
-            | inr told ↦ reported_in_part call
-                (record { text = y.0; ran = ran; status = told.0; rose = told.1; written = told.2 })
-          ]
+      | inl unwritten ↦ out_of_memory call unwritten (inr (job, m, run))
+      | inr y ↦ reported call (record {
+        job = job;
+        input_module = m;
+        run = run;
+        read = read_out call.source input.0 input.1;
+        text = y.0;
+        report = y.1;
+        told = y.2;
+      })
     ]
 
 pub replay_ends : (call : Call) → IsJob call.words Replay → ReplayEnds call.source call.sink call.ended → Ends call
@@ -146,21 +125,17 @@ pub answer_ends : (call : Call) (job : Job) (text : Module → List ℕ) → ((m
 answer_ends call job text text_of is (inl x) = stop_ends call job is x
 answer_ends call job text text_of is (inr x) =
     let input = x.1 in
-    let answer : HasAnswer call (text x.0) =
-    record {
+    answered call (record {
       job = job;
       is_job = is;
       input_module = x.0;
       of_input = of_input call.source x.0 input;
       read = read_out call.source input.0 input.1;
-      text_of = text_of x.0;
       empty = x.2;
-    } in
-    elim x.3 [
-      | inl told ↦ answered call (record { text = text x.0; answer = answer; status = told.0; written = told.1 })
-      | inr told ↦ answered_in_part call
-          (record { text = text x.0; answer = answer; status = told.0; rose = told.1; written = told.2 })
-    ]
+      text = text x.0;
+      text_of = text_of x.0;
+      told = x.3;
+    })
 
 -- an input that gives no module ends the job
 pub stopped : (job : Job) (source : Reading) (sink : Writing) (ended : Ended) (why : NoModule) → Explains source why

@@ -66,92 +66,7 @@ WriteRose sink = Rose sink.faults sink.faults_after
 abbrev pub IsReadOut : Reading → Type 0
 IsReadOut source = source.left_after ≡ option_map (λ _. []) source.left
 
--- this is the fault that ends the call
-abbrev pub Faults : Call → Fault → Type 0
-Faults call fault = IsDue call.words call.source.left (ReadRose call.source) fault
-
--- THE SEVEN WAYS IN WHICH A CALL ENDS
-
--- a fault was due, its line was written, and nothing was run
-pub record Refused (call : Call) : Type 0 where
-  pub fault : Fault
-  pub due : Faults call fault
-  pub read : IsOfModule fault → IsReadOut call.source
-  pub status : call.ended.status ≡ status_of fault
-  pub written : Takes call.sink.taken (fault_text fault) call.sink.taken_after
-  pub empty : IsEmpty call.ended.run
-
--- a fault was due, and the sink failed as its line was written
-pub record RefusedInPart (call : Call) : Type 0 where
-  pub fault : Fault
-  pub due : Faults call fault
-  pub read : IsOfModule fault → IsReadOut call.source
-  pub status : call.ended.status ≡ 5
-  pub rose : WriteRose call.sink
-  pub written : TakesFront call.sink.taken (fault_text fault) call.sink.taken_after
-  pub empty : IsEmpty call.ended.run
-
--- the accepted module that the input spells was run, and this is the report
-pub record HasRun (call : Call) (text : List ℕ) : Type 0 where
-  pub job : IsJob call.words Replay
-  pub input_module : Module
-  pub run : IsRunOfInput call.source.left input_module call.ended.run
-  pub read : IsReadOut call.source
-  pub report : IsReport (function_names input_module) call.ended.run.stops call.ended.run.traces text
-
--- the module was run and its report was written
-pub record Reported (call : Call) : Type 0 where
-  pub text : List ℕ
-  pub ran : HasRun call text
-  pub status : call.ended.status ≡ run_status call.ended.run.stops
-  pub written : Takes call.sink.taken text call.sink.taken_after
-
--- the module was run, and the sink failed as its report was written
-pub record ReportedInPart (call : Call) : Type 0 where
-  pub text : List ℕ
-  pub ran : HasRun call text
-  pub status : call.ended.status ≡ 5
-  pub rose : WriteRose call.sink
-  pub written : TakesFront call.sink.taken text call.sink.taken_after
-
--- the text is that of a job that runs nothing, for the accepted module that the input spells
-pub record HasAnswer (call : Call) (text : List ℕ) : Type 0 where
-  pub job : Job
-  pub is_job : IsJob call.words job
-  pub input_module : Module
-  pub of_input : IsModuleOfInput call.source.left input_module
-  pub read : IsReadOut call.source
-  pub text_of : IsTextOf job input_module text
-  pub empty : IsEmpty call.ended.run
-
--- that text was written
-pub record Answered (call : Call) : Type 0 where
-  pub text : List ℕ
-  pub answer : HasAnswer call text
-  pub status : call.ended.status ≡ 0
-  pub written : Takes call.sink.taken text call.sink.taken_after
-
--- the sink failed as that text was written
-pub record AnsweredInPart (call : Call) : Type 0 where
-  pub text : List ℕ
-  pub answer : HasAnswer call text
-  pub status : call.ended.status ≡ 5
-  pub rose : WriteRose call.sink
-  pub written : TakesFront call.sink.taken text call.sink.taken_after
-
--- memory ran out, before the run or behind it, and nothing was written
-pub record OutOfMemory (call : Call) : Type 0 where
-  pub status : call.ended.status ≡ 6
-  pub nothing : call.sink.taken_after ≡ call.sink.taken
-  pub run : IsEmpty call.ended.run
-      ⊎ (IsJob call.words Replay × (m : Module) × IsRunOfInput call.source.left m call.ended.run)
-
--- every call ends so
-abbrev pub Ends : Call → Type 0
-Ends call = Refused call ⊎ RefusedInPart call ⊎ Reported call ⊎ ReportedInPart call ⊎ Answered call
-    ⊎ AnsweredInPart call ⊎ OutOfMemory call
-
--- HOW THE PARTS OF A CALL END
+-- HOW A TEXT IS WRITTEN
 
 -- the text was written and the status is the one that stands for that, or the sink failed in the middle of it
 abbrev pub Delivers : List ℕ → (done : ℕ) → Writing → (status : ℕ) → Type 0
@@ -162,6 +77,50 @@ Delivers text done sink status =
 -- memory ran out before anything was written
 abbrev pub Unwritten : Writing → (status : ℕ) → Type 0
 Unwritten sink status = (status ≡ 6) × (sink.taken_after ≡ sink.taken)
+
+-- THE FOUR WAYS IN WHICH A CALL ENDS
+
+-- a fault was due, nothing was run, and its line was delivered
+pub record Refused (call : Call) : Type 0 where
+  pub fault : Fault
+  pub due : IsDue call.words call.source.left (ReadRose call.source) fault
+  pub read : IsOfModule fault → IsReadOut call.source
+  pub empty : IsEmpty call.ended.run
+  pub told : Delivers (fault_text fault) (status_of fault) call.sink call.ended.status
+
+-- the accepted module that the input spells was run, and the report was delivered
+pub record Reported (call : Call) : Type 0 where
+  pub job : IsJob call.words Replay
+  pub input_module : Module
+  pub run : IsRunOfInput call.source.left input_module call.ended.run
+  pub read : IsReadOut call.source
+  pub text : List ℕ
+  pub report : IsReport (function_names input_module) call.ended.run.stops call.ended.run.traces text
+  pub told : Delivers text (run_status call.ended.run.stops) call.sink call.ended.status
+
+-- nothing was run, and the text that a job has of the accepted module that the input spells was delivered
+pub record Answered (call : Call) : Type 0 where
+  pub job : Job
+  pub is_job : IsJob call.words job
+  pub input_module : Module
+  pub of_input : IsModuleOfInput call.source.left input_module
+  pub read : IsReadOut call.source
+  pub empty : IsEmpty call.ended.run
+  pub text : List ℕ
+  pub text_of : IsTextOf job input_module text
+  pub told : Delivers text 0 call.sink call.ended.status
+
+-- memory ran out, before the run or behind it, and nothing was written
+pub record OutOfMemory (call : Call) : Type 0 where
+  pub unwritten : Unwritten call.sink call.ended.status
+  pub run : IsEmpty call.ended.run
+      ⊎ (IsJob call.words Replay × (m : Module) × IsRunOfInput call.source.left m call.ended.run)
+
+-- every call ends so
+abbrev pub Ends : Call → Type 0
+Ends call = Refused call ⊎ Reported call ⊎ Answered call ⊎ OutOfMemory call
+
+-- HOW THE PARTS OF A CALL END
 
 -- memory ran out before anything was run
 abbrev pub MemoryEnds : Writing → Ended → Type 0
