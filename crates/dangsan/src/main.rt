@@ -1,4 +1,5 @@
-//! The program `dangsan`: calls [`dangsan_main`] on its words, its standard input and its standard output, and ends with the status of that.
+//! The program `dangsan`: calls [`dangsan_main`] on its words, its standard input and its standard output, and ends
+//! with the status of that.
 #![tactic(auto)]
 
 use ds_io::{StdSink, StdSource};

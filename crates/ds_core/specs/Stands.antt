@@ -1,4 +1,4 @@
--- What is kept of a run while it is made.
+-- Helpers: what is kept of a run while it is made. No clause of a public call speaks of them.
 use Rattle.std.specs.Prelude.{◌≡◌, ℕ, ◌+◌, ◌*◌, ◌<◌, true, List, ◌++◌, length, replicate, slice_get}
 use Rattle.ds_step.specs.declared.Step.{Step}
 use Rattle.ds_step.specs.Word.{answer_on}
@@ -6,7 +6,6 @@ use Rattle.ds_small.specs.Module.{Module}
 use Rattle.ds_map.specs.Bounds.{Bounds, default_limits}
 use Rattle.ds_map.specs.Regions.{program_words}
 use Rattle.ds_plain.specs.declared.Stop.{Stop}
-use Rattle.ds_plain.specs.declared.Stop.TheVariants.{Idle, Running, Returned, Fuel, Trap}
 use Rattle.ds_plain.specs.declared.Position.{Position}
 use Rattle.ds_plain.specs.declared.Position.TheVariants.{LoadStart, DrawPrint, LoadWord, StoreWord, StoreEnded, Over}
 use Rattle.ds_plain.specs.Behaviour.{Program}
@@ -26,19 +25,25 @@ IsWithin lim (StoreWord loc value) = loc < program_words lim
 IsWithin lim (StoreEnded stop) = Unit {0}
 IsWithin lim (Over stop) = Unit {0}
 
--- Taken in this order the traces stand: they follow the step table, they are legal and leave these words, and they leave the threads there.
+-- Taken in this order the traces stand: they follow the step table, they are legal and leave these words, and they
+-- leave the threads there.
 abbrev pub StandsWith : Program → Bounds → List ℕ → List ℕ → List (List Step) → List ℕ → (ℕ → Thread) → Type 0
-StandsWith program lim image words traces order threads = (h : History) × (threads_of h ≡ order) × Stands program lim image traces h words threads
+StandsWith program lim image words traces order threads =
+    (h : History) × (threads_of h ≡ order) × Stands program lim image traces h words threads
 
 -- After the step of a thread at this position what stood stands, with the thread where the step leads.
-abbrev pub StandsAfter : Bounds → ℕ → Position → List ℕ → List ℕ → List (List Step) → List (List Step) → List ℕ → List ℕ → Type 0
+abbrev pub StandsAfter : Bounds → ℕ → Position → List ℕ → List ℕ → List (List Step) → List (List Step) → List ℕ
+    → List ℕ → Type 0
 StandsAfter lim thread position words words' traces traces' order order' =
-    (program : Program) (image : List ℕ) (threads : ℕ → Thread) → (threads thread).position ≡ position → StandsWith program lim image words traces order threads
-    → StandsWith program lim image words' traces' order' (replaced threads thread (moved lim thread (threads thread) (answer_on words (op_at lim thread position))))
+    (program : Program) (image : List ℕ) (threads : ℕ → Thread) → (threads thread).position ≡ position
+    → StandsWith program lim image words traces order threads
+    → StandsWith program lim image words' traces' order'
+    (replaced threads thread (moved lim thread (threads thread) (answer_on words (op_at lim thread position))))
 
 -- where main stands, once its instructions so far were given these answers
 abbrev pub main_position : Module → List ℕ → Position
-main_position small answers = position_of (request_at (length answers) answers (slice_get small.code (length answers)))
+main_position small answers =
+    position_of (request_at small.main (length answers) answers (slice_get small.code (length answers)))
 
 -- what a step at this position answers to the instruction that asked for it
 abbrev pub told_at : Position → ℕ → ℕ
@@ -49,9 +54,16 @@ told_at (StoreWord loc value) old = 0
 told_at (StoreEnded stop) old = 0
 told_at (Over stop) old = 0
 
--- main at these answers; its first step and its first instruction cost two units, and so does each instruction with its step
+-- main at these answers; its first step and its first instruction cost two units, and so does each instruction with
+-- its step
 abbrev pub main_thread : Module → List ℕ → Thread
-main_thread small answers = record { rest = λ more. asked_of small (answers ++ more); position = main_position small answers; units = 2 + 2 * length answers; began = true }
+main_thread small answers =
+    record {
+      rest = λ more. asked_of small (answers ++ more);
+      position = main_position small answers;
+      units = 2 + 2 * length answers;
+      began = true;
+    }
 
 -- all threads while main stands at these answers
 abbrev pub threads_at : Module → List ℕ → ℕ → Thread
@@ -59,23 +71,22 @@ threads_at small answers = replaced (first_thread default_limits (program_of sma
 
 -- what stands while main stands at these answers
 abbrev pub MainStands : Module → List ℕ → List ℕ → List (List Step) → List ℕ → Type 0
-MainStands small answers words traces order = StandsWith (program_of small) default_limits small.globals words traces order (threads_at small answers)
+MainStands small answers words traces order =
+    StandsWith (program_of small) default_limits small.globals words traces order (threads_at small answers)
 
 -- main has ended with this stop, and no other thread was started
 abbrev pub threads_at_end : Module → List ℕ → Stop → ℕ → Thread
 threads_at_end small answers stop =
-    replaced (first_thread default_limits (program_of small)) 0 (record { rest = λ more. asked_of small (answers ++ more); position = Over stop; units = 2 + 2 * length answers; began = true })
+    replaced (first_thread default_limits (program_of small)) 0
+    (record {
+      rest = λ more. asked_of small (answers ++ more);
+      position = Over stop;
+      units = 2 + 2 * length answers;
+      began = true;
+    })
 
 -- main has ended with this stop, every step was main's, and the record stands
 abbrev pub HasEndedAll : Module → Stop → List ℕ → List (List Step) → List ℕ → Type 0
 HasEndedAll small stop words traces order =
     (length traces ≡ 16) × (answers : List ℕ) × (order ≡ replicate (length answers + 2) 0)
     × StandsWith (program_of small) default_limits small.globals words traces order (threads_at_end small answers stop)
-
--- main ended by itself: it returned, or an instruction of its own could not be carried out
-abbrev pub IsOwnStop : Stop → Type 0
-IsOwnStop Idle = ⊥
-IsOwnStop Running = ⊥
-IsOwnStop (Returned value) = Unit {0}
-IsOwnStop Fuel = ⊥
-IsOwnStop (Trap trap) = Unit {0}

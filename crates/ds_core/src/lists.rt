@@ -1,6 +1,7 @@
 //! The lists that a record of a run is made of.
 
-ghost use Rattle.std.specs.Prelude.{◌≡◌, ◌<◌, [], ◌∷◌, ◌++◌, length, replicate, slice_set, slice_index_or, OnOk, OnErr, IfOk, IfSome};
+ghost use Rattle.std.specs.Prelude.{◌≡◌, ◌<◌, [], ◌∷◌, ◌++◌, length, replicate, slice_set, slice_index_or, OnOk};
+ghost use Rattle.std.specs.Prelude.{OnErr, IfOk, IfSome};
 
 use ds_plain::Stop;
 use ds_step::Step;
@@ -95,7 +96,8 @@ impl Traces {
     /// Adds a thread's newest step. An `Err` changes nothing.
     pub fn push(&mut self, thread: usize, step: Step) -> Result<(), AllocError>
         requires { thread < length self.old }
-        ensures ok { OnOk result (self.new ≡ slice_set self.old thread (slice_index_or self.old thread [] ++ step ∷ [])) }
+        ensures ok { OnOk result
+            (self.new ≡ slice_set self.old thread (slice_index_or self.old thread [] ++ step ∷ [])) }
         ensures err { OnErr result (self.new ≡ self.old) }
     {
         self.traces[thread].push(step)

@@ -1,6 +1,7 @@
 //! Runs a module of this stage on the shared words.
 
-ghost use Rattle.std.specs.Prelude.{◌≡◌, ℕ, ◌+◌, ◌*◌, ◌<◌, ◌≤◌, false, [], ◌∷◌, ◌++◌, List, length, replicate, vec_len, slice_get, OnOk, IfOk, IsSomeAnd, Some, None, take};
+ghost use Rattle.std.specs.Prelude.{◌≡◌, ℕ, ◌+◌, ◌*◌, ◌<◌, ◌≤◌, false, [], ◌∷◌, ◌++◌, List, length, replicate};
+ghost use Rattle.std.specs.Prelude.{vec_len, slice_get, OnOk, IfOk, IsSomeAnd, Some, None, take};
 ghost use Rattle.ds_step.specs.Word.{answer_on};
 ghost use Rattle.ds_small.specs.Module.{IsWellFormed};
 ghost use Rattle.ds_map.specs.Bounds.{default_limits};
@@ -13,7 +14,8 @@ ghost use Rattle.ds_plain.specs.Table.{op_at, is_over};
 ghost use Rattle.ds_plain.specs.Thread.{first_thread};
 ghost use Rattle.ds_plain.specs.Explained.{IsRecord, IsLegalOrder, HasEnded};
 ghost use Rattle.ds_plain.specs.Small.{program_of};
-ghost use Rattle.ds_core.specs.Stands.{main_position, told_at, MainStands, HasEndedAll, IsOwnStop};
+ghost use Rattle.ds_core.specs.Ended.{IsOwnStop};
+ghost use Rattle.ds_core.specs.Stands.{main_position, told_at, MainStands, HasEndedAll};
 
 use crate::lists::{Order, Stops, Traces};
 use crate::record::RunRecord;
@@ -50,7 +52,8 @@ impl Replay {
         ensures limits { IfOk result (λ replay. replay.limits ≡ default_limits) }
         ensures table { IfOk result (λ replay. replay.table ≡ first_words default_limits image.now) }
         ensures stands { IfOk result (λ replay. (program : Program) →
-            StandsWith program default_limits image.now replay.table replay.traces replay.order (first_thread default_limits program)) }
+            StandsWith program default_limits image.now replay.table replay.traces replay.order
+            (first_thread default_limits program)) }
         ensures order { IfOk result (λ replay. replay.order ≡ []) }
     {
         nothing_stands();
@@ -71,7 +74,8 @@ impl Replay {
         ensures stands { OnOk result (StandsAfter self.old.limits thread position self.old.table self.new.table
             self.old.traces self.new.traces self.old.order self.new.order) }
         ensures order { OnOk result (self.new.order ≡ self.old.order ++ thread ∷ []) }
-        ensures answer { IfOk result (λ answer. answer ≡ answer_on self.old.table (op_at self.old.limits thread position)) }
+        ensures answer { IfOk result
+            (λ answer. answer ≡ answer_on self.old.table (op_at self.old.limits thread position)) }
         ensures limits { self.new.limits ≡ self.old.limits }
     {
         one_step_more();
@@ -91,7 +95,8 @@ fn run_code(replay: &mut Replay, small: &Small, answers: &mut Vec<u64>) -> Resul
     requires none_yet { answers.old.items ≡ [] }
     requires stands { MainStands small.now [] replay.old.table replay.old.traces replay.old.order }
     requires order { replay.old.order ≡ replicate 1 0 }
-    ensures stands { OnOk result (MainStands small.now answers.new.items replay.new.table replay.new.traces replay.new.order) }
+    ensures stands { OnOk result
+        (MainStands small.now answers.new.items replay.new.table replay.new.traces replay.new.order) }
     ensures order { OnOk result (replay.new.order ≡ replicate (length answers.new.items + 1) 0) }
     ensures stop { IfOk result (λ stop. main_position small.now answers.new.items ≡ StoreEnded stop) }
     ensures own { IfOk result IsOwnStop }
@@ -138,7 +143,8 @@ fn stops_by(alloc: Global, main: Stop) -> Result<Stops, AllocError>
 pub fn replay_small(alloc: Global, small: &Small) -> Result<RunRecord, AllocError>
     requires { IsWellFormed small.now }
     ensures record { IfOk result (λ run. IsRecord (program_of small.now) default_limits run.stops run.traces) }
-    ensures order { IfOk result (λ run. IsSomeAnd run.order (IsLegalOrder default_limits small.now.globals run.traces)) }
+    ensures order { IfOk result
+        (λ run. IsSomeAnd run.order (IsLegalOrder default_limits small.now.globals run.traces)) }
     ensures main_alone { IfOk result (λ run. IsSomeAnd run.order (λ order. order ≡ replicate (length order) 0)) }
     ensures stops { IfOk result (λ run. (stop : Stop) × IsOwnStop stop × (run.stops ≡ stop ∷ replicate 15 Idle)) }
 {

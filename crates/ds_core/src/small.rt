@@ -20,30 +20,30 @@ fn value_by(answers: &[u64], value: SmallValue) -> u64
     }
 }
 
-/// The stop of main where this instruction goes through the null pointer.
-fn stop_at_null(instruction: u32) -> Stop
-    ensures { result ≡ null_stop instruction }
+/// The stop of main, the function of this number, where this instruction goes through the null pointer.
+fn stop_at_null(main: u32, instruction: u32) -> Stop
+    ensures { result ≡ null_stop main instruction }
 {
     Stop::Trap(Trap {
         place: Place {
-            function: 0,
+            function: main,
             instruction,
         },
         kind: TrapKind::BadAddress { address: 0 },
     })
 }
 
-/// Where main stands at an instruction, by the answers to those before it.
-fn position_by(op: SmallOp, answers: &[u64]) -> Position
+/// Where main, the function of this number, stands at an instruction, by the answers to those before it.
+fn position_by(main: u32, op: SmallOp, answers: &[u64]) -> Position
     requires { length answers.now < 2 ^ 32 }
-    ensures { result ≡ position_of (request_at (length answers.now) answers.now (Some op)) }
+    ensures { result ≡ position_of (request_at main (length answers.now) answers.now (Some op)) }
 {
     let instruction = answers.len() as u32;
     match op {
         SmallOp::Load { at } => match at {
             SmallAddress::Global(loc) => Position::LoadWord { loc },
             SmallAddress::Null => Position::StoreEnded {
-                stop: stop_at_null(instruction),
+                stop: stop_at_null(main, instruction),
             },
         },
         SmallOp::Store { value, at } => match at {
@@ -52,7 +52,7 @@ fn position_by(op: SmallOp, answers: &[u64]) -> Position
                 value: value_by(answers, value),
             },
             SmallAddress::Null => Position::StoreEnded {
-                stop: stop_at_null(instruction),
+                stop: stop_at_null(main, instruction),
             },
         },
         SmallOp::Print { value } => Position::DrawPrint {
@@ -70,7 +70,7 @@ pub fn position_at(small: &Small, answers: &[u64]) -> Position
     ensures goes_on { is_over result ≡ false }
 {
     let op = small.code()[answers.len()];
-    position_by(op, answers)
+    position_by(small.main(), op, answers)
 }
 
 /// What an instruction is told of the step that it asked for.

@@ -1,5 +1,5 @@
 -- An input that is accepted is not refused.
-use Rattle.std.proofs.Common.{◌≡◌, ℕ, ◌⊎◌, inl, inr, List, Option, Some, None, sym, ap, subst, ◌∙◌, arith}
+use Rattle.std.proofs.Common.{◌≡◌, ℕ, inl, inr, List, Option, Some, None, sym, ap, subst, ◌∙◌, arith}
 use Rattle.ds_ast.specs.declared.module.Module.{Module}
 use Rattle.ds_small.specs.Module as small
 use Rattle.ds_stage.specs.Form.{small_of}
@@ -10,12 +10,14 @@ use Rattle.ds_shape.specs.Laws.{LayoutsAreNotRefused}
 use Rattle.ds_check.specs.Laws.{AcceptedAreNotRefused}
 use Rattle.ds_report.specs.declared.fault.Fault.{Fault}
 use Rattle.ds_report.specs.declared.fault.Fault.TheVariants.{Usage, Read, TooLong, Parse, Shape, Check, OtherForm}
-use Rattle.ds_main.specs.declared.job.Job.{Job}
 use Rattle.ds_main.specs.declared.job.Job.TheVariants as jobs
-use Rattle.ds_main.specs.Input.{SpellsAccepted, SpellsSmall, SpellsFaulty, HasModuleFault, HasTextFault, IsTooLong, IsOtherForm, IsAccepted, IsRefused, AcceptedInputsAreNotRefused}
+use Rattle.ds_main.specs.Input.{SpellsAccepted, SpellsSmall}
+use Rattle.ds_main.specs.Refusal.{IsTooLong, HasTextFault, HasModuleFault, SpellsFaulty, IsOtherForm}
+use Rattle.ds_main.specs.Refusal.{AcceptedInputsAreNotRefused}
 
 -- an accepted module has no fault
-no_fault : LayoutsAreNotRefused → AcceptedAreNotRefused → (m : Module) (fault : Fault) → Accepted m → HasModuleFault fault m → ⊥
+no_fault : LayoutsAreNotRefused → AcceptedAreNotRefused → (m : Module) (fault : Fault) → Accepted m
+    → HasModuleFault fault m → ⊥
 no_fault layouts checks m Usage accepted h = absurd h
 no_fault layouts checks m Read accepted h = absurd h
 no_fault layouts checks m TooLong accepted h = absurd h
@@ -24,7 +26,8 @@ no_fault layouts checks m (Shape f) accepted h = layouts m f accepted.layout h
 no_fault layouts checks m (Check f names) accepted h = checks m f accepted h.1
 no_fault layouts checks m OtherForm accepted h = absurd h
 
-module _ (one : TextsSpellOneModule) (texts : TextsAreNotRefused) (layouts : LayoutsAreNotRefused) (checks : AcceptedAreNotRefused) where
+module _ (one : TextsSpellOneModule) (texts : TextsAreNotRefused) (layouts : LayoutsAreNotRefused)
+    (checks : AcceptedAreNotRefused) where
   -- nor has the text of one another module that has a fault
   no_other : (bytes : List ℕ) (m : Module) (fault : Fault) → SpellsAccepted bytes m → SpellsFaulty fault bytes → ⊥
   no_other bytes m fault (spells, accepted) (n, other, h) =
@@ -40,19 +43,25 @@ module _ (one : TextsSpellOneModule) (texts : TextsAreNotRefused) (layouts : Lay
   too_long : (bytes : List ℕ) (m : Module) → SpellsAccepted bytes m → IsTooLong bytes → ⊥
   too_long bytes m (spells, accepted) long = absurd (omega (arith, spells.0, long))
 
-  no_text_fault : (bytes : List ℕ) (m : Module) (fault : ParseFault) → SpellsAccepted bytes m → HasTextFault fault bytes → ⊥
+  no_text_fault : (bytes : List ℕ) (m : Module) (fault : ParseFault) → SpellsAccepted bytes m
+      → HasTextFault fault bytes → ⊥
   no_text_fault bytes m fault (spells, accepted) h = texts bytes m fault spells.1 h.1
 
   pub accepted_inputs_are_not_refused : AcceptedInputsAreNotRefused
   accepted_inputs_are_not_refused jobs.Replay bytes (s, (m, spells, is)) (inl long) = too_long bytes m spells long
-  accepted_inputs_are_not_refused jobs.Replay bytes (s, (m, spells, is)) (inr (inl x)) = no_text_fault bytes m x.0 spells x.1
-  accepted_inputs_are_not_refused jobs.Replay bytes (s, (m, spells, is)) (inr (inr (inl x))) = no_other bytes m x.0 spells x.1
-  accepted_inputs_are_not_refused jobs.Replay bytes (s, (m, spells, is)) (inr (inr (inr x))) = other_form bytes s (m, spells, is) x.1
+  accepted_inputs_are_not_refused jobs.Replay bytes (s, (m, spells, is)) (inr (inl x)) =
+      no_text_fault bytes m x.0 spells x.1
+  accepted_inputs_are_not_refused jobs.Replay bytes (s, (m, spells, is)) (inr (inr (inl x))) =
+      no_other bytes m x.0 spells x.1
+  accepted_inputs_are_not_refused jobs.Replay bytes (s, (m, spells, is)) (inr (inr (inr x))) =
+      other_form bytes s (m, spells, is) x.1
   accepted_inputs_are_not_refused jobs.Check bytes (m, spells) (inl long) = too_long bytes m spells long
   accepted_inputs_are_not_refused jobs.Check bytes (m, spells) (inr (inl x)) = no_text_fault bytes m x.0 spells x.1
   accepted_inputs_are_not_refused jobs.Check bytes (m, spells) (inr (inr (inl x))) = no_other bytes m x.0 spells x.1
   accepted_inputs_are_not_refused jobs.Check bytes (m, spells) (inr (inr (inr x))) = absurd x.0
   accepted_inputs_are_not_refused jobs.Instrument bytes (m, spells) (inl long) = too_long bytes m spells long
-  accepted_inputs_are_not_refused jobs.Instrument bytes (m, spells) (inr (inl x)) = no_text_fault bytes m x.0 spells x.1
-  accepted_inputs_are_not_refused jobs.Instrument bytes (m, spells) (inr (inr (inl x))) = no_other bytes m x.0 spells x.1
+  accepted_inputs_are_not_refused jobs.Instrument bytes (m, spells) (inr (inl x)) =
+      no_text_fault bytes m x.0 spells x.1
+  accepted_inputs_are_not_refused jobs.Instrument bytes (m, spells) (inr (inr (inl x))) =
+      no_other bytes m x.0 spells x.1
   accepted_inputs_are_not_refused jobs.Instrument bytes (m, spells) (inr (inr (inr x))) = absurd x.0

@@ -1,29 +1,54 @@
 -- What was recorded is a run of the module.
-use Rattle.std.proofs.Common.{◌≡◌, ℕ, List, Option, Some, None, subst, arith}
+use Rattle.std.proofs.Common.{◌≡◌, ℕ, List, ◌∷◌, length, drop, replicate, Option, Some, None, ap, subst, arith}
 use Rattle.std.specs.Prelude.{IsSomeAnd}
 use Rattle.ds_step.specs.declared.Step.{Step}
 use Rattle.ds_small.specs.Module.{Module}
 use Rattle.ds_map.specs.Bounds.{Bounds, IsInRange, default_limits}
+use Rattle.ds_plain.specs.declared.Stop.{Stop}
+use Rattle.ds_plain.specs.declared.Stop.TheVariants.{Idle}
 use Rattle.ds_plain.specs.Explained.{IsRecord, IsLegalOrder, HasLegalOrder}
 use Rattle.ds_plain.specs.Small.{program_of}
 use Rattle.ds_laws.specs.Laws.{LegalRunsArePlain}
 use Rattle.ds_core.specs.declared.record.RunRecord.{RunRecord}
 use Rattle.ds_main.specs.Run.{IsRunOfModule}
-use Rattle.ds_main.specs.Ending.{Delivers}
+use Rattle.ds_main.specs.Ending.{Writing, Delivers}
 
 -- a recorded order that is legal is some legal order
-has_legal_order : (lim : Bounds) (image : List ℕ) (traces : List (List Step)) (order : Option (List ℕ)) → IsSomeAnd order (IsLegalOrder lim image traces) → HasLegalOrder lim image traces
+has_legal_order : (lim : Bounds) (image : List ℕ) (traces : List (List Step)) (order : Option (List ℕ))
+    → IsSomeAnd order (IsLegalOrder lim image traces) → HasLegalOrder lim image traces
 has_legal_order lim image traces None legal = absurd legal
 has_legal_order lim image traces (Some order) legal = ∣ (legal.0, legal.2, legal.3) ∣₁
 
 default_in_range : IsInRange default_limits
-default_in_range = record { some_page = omega arith; pages = omega arith; some_fuel = omega arith; fuel = omega arith; logs = omega arith; hash = omega arith }
+default_in_range = record {
+  some_page = omega arith;
+  pages = omega arith;
+  some_fuel = omega arith;
+  fuel = omega arith;
+  logs = omega arith;
+  hash = omega arith;
+}
 
-pub run_of_module : LegalRunsArePlain → (small : Module) (run : RunRecord) → IsRecord (program_of small) default_limits run.stops run.traces → IsSomeAnd run.order (IsLegalOrder default_limits small.globals run.traces) → IsRunOfModule small run
-run_of_module law small run recorded legal =
-    record { sixteen_stops = recorded.sixteen_stops; sixteen_traces = recorded.sixteen_traces; explained = law (program_of small) default_limits small.globals run.stops run.traces default_in_range recorded (has_legal_order default_limits small.globals run.traces run.order legal); order = legal }
+-- behind main's stop all are idle
+idle_behind : (stops : List Stop) (stop : Stop) → stops ≡ stop ∷ replicate 15 Idle → drop 1 stops ≡ replicate 15 Idle
+idle_behind stops stop are = ap (λ (s : List Stop). drop 1 s) are
+
+pub run_of_module : LegalRunsArePlain → (small : Module) (run : RunRecord)
+    → IsRecord (program_of small) default_limits run.stops run.traces
+    → IsSomeAnd run.order (IsLegalOrder default_limits small.globals run.traces)
+    → IsSomeAnd run.order (λ order. order ≡ replicate (length order) 0)
+    → (main : Stop) → run.stops ≡ main ∷ replicate 15 Idle → IsRunOfModule small run
+run_of_module law small run recorded legal alone main stops = record {
+  sixteen_stops = recorded.sixteen_stops;
+  sixteen_traces = recorded.sixteen_traces;
+  explained = law (program_of small) default_limits small.globals run.stops run.traces default_in_range recorded
+      (has_legal_order default_limits small.globals run.traces run.order legal);
+  order = legal;
+  main_alone = alone;
+  others_idle = idle_behind run.stops main stops;
+}
 
 -- the same status under another name
-pub delivers_as : (text : List ℕ) (done same : ℕ) (taken taken_after : Option (List ℕ)) (writes writes_after status : ℕ) → done ≡ same
-    → Delivers text done taken taken_after writes writes_after status → Delivers text same taken taken_after writes writes_after status
-delivers_as text done same taken taken_after writes writes_after status is told = subst (λ (n : ℕ). Delivers text n taken taken_after writes writes_after status) is told
+pub delivers_as : (text : List ℕ) (done same : ℕ) (sink : Writing) (status : ℕ) → done ≡ same
+    → Delivers text done sink status → Delivers text same sink status
+delivers_as text done same sink status is told = subst (λ (n : ℕ). Delivers text n sink status) is told

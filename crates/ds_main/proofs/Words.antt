@@ -6,7 +6,8 @@ use Rattle.std.specs.Cmp.Lexicographic.{bytes_decides}
 use Rattle.ds_main.specs.Job.{texts}
 
 -- the text of a single word
-one_word : {Z : Type 0} (words : List (String Z)) (word : String Z) → length words ≡ 1 → word ≡ get_or words 0 word → texts words ≡ string_bytes word ∷ []
+one_word : {Z : Type 0} (words : List (String Z)) (word : String Z) → length words ≡ 1 → word ≡ get_or words 0 word
+    → texts words ≡ string_bytes word ∷ []
 one_word [] word one is = absurd (cc)
 one_word (w ∷ []) word one is = ap (λ w. string_bytes w ∷ []) (sym is)
 one_word (w ∷ v ∷ ws) word one is = absurd (cc)
@@ -15,7 +16,8 @@ only_is : (a b : List ℕ) → a ∷ [] ≡ b ∷ [] → a ≡ b
 only_is a b e = cc (e)
 
 -- whether the bytes of a single word are these
-pub is_only : {Z : Type 0} (words : List (String Z)) (word : String Z) (bytes text : List ℕ) (b : Bool) → length words ≡ 1 → word ≡ get_or words 0 word → bytes ≡ string_bytes word → b ≡ bytes_eq bytes text
+pub is_only : {Z : Type 0} (words : List (String Z)) (word : String Z) (bytes text : List ℕ) (b : Bool)
+    → length words ≡ 1 → word ≡ get_or words 0 word → bytes ≡ string_bytes word → b ≡ bytes_eq bytes text
     → IsTrue b ↔ (texts words ≡ text ∷ [])
 is_only words word bytes text b one is same e = (
   (λ t. one_word words word one is ∙ ap (λ x. x ∷ []) (sym same ∙ (bytes_decides bytes text).0 (sym e ∙ t))),

@@ -2,5 +2,8 @@ pub mod Job
 pub mod Input
 pub mod Text
 pub mod Run
+pub mod Status
+pub mod Refusal
+pub mod Due
 pub mod Ending
 pub mod Stopped

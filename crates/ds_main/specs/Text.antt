@@ -20,7 +20,8 @@ is_defined f = has_blocks f.blocks
 -- how many functions the module defines, and how many instructions these have; those that are declared have none
 abbrev pub accepted_text : Module → List ℕ
 accepted_text m =
-    codes "accepted: functions " ++ decimal (length (filter is_defined m.functions)) ++ codes " instructions " ++ decimal (length (flat_map instructions_of m.functions))
+    codes "accepted: functions " ++ decimal (length (filter is_defined m.functions)) ++ codes " instructions "
+    ++ decimal (length (flat_map instructions_of m.functions))
     ++ codes "\n"
 
 -- the text that the job writes of the module, where it runs none

@@ -1,6 +1,6 @@
 //! Writes what is due, and tells by a status how that went.
 
-ghost use Rattle.ds_main.specs.Ending.{Delivers};
+ghost use Rattle.ds_main.specs.Ending.{writing, Delivers};
 
 use ds_io::{Failed, Sink, write_all};
 
@@ -18,7 +18,7 @@ pub const OUT_OF_MEMORY: u8 = 6;
 
 /// Writes a text, and answers the status `done` where that went well.
 pub fn deliver<K: Sink>(sink: &mut K, text: &[u8], done: u8) -> u8
-    ensures { Delivers text.now done (K.taken sink.old) (K.taken sink.new) (K.faults sink.old) (K.faults sink.new) result }
+    ensures { Delivers text.now done (writing K.taken K.faults sink.old sink.new) result }
 {
     match write_all(sink, text) {
         Ok(()) => done,

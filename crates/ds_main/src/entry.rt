@@ -11,10 +11,13 @@ ghost use Rattle.ds_report.specs.Fault.{fault_text};
 ghost use Rattle.ds_report.specs.Report.{IsReport};
 ghost use Rattle.ds_main.specs.declared.job.Job.{Job};
 ghost use Rattle.ds_main.specs.Job.{texts, IsJob, HasJob, NoJob};
-ghost use Rattle.ds_main.specs.Input.{Held, IsAccepted, IsRefused, IsModuleOfInput};
+ghost use Rattle.ds_main.specs.Input.{Held, IsAccepted, IsModuleOfInput, function_names};
+ghost use Rattle.ds_main.specs.Refusal.{IsRefused};
 ghost use Rattle.ds_main.specs.Text.{accepted_text};
-ghost use Rattle.ds_main.specs.Run.{IsEmpty, IsRunOfInput, run_status, IsRunStatus};
-ghost use Rattle.ds_main.specs.Ending.{Call, Ends, status_of, IsDue, IsOfModule, IsDueText, IsCutShort, IsFaultStatus, IsStatus};
+ghost use Rattle.ds_main.specs.Run.{IsEmpty, IsRunOfInput};
+ghost use Rattle.ds_main.specs.Status.{run_status, IsRunStatus, status_of, IsFaultStatus, IsCutShort, IsStatus};
+ghost use Rattle.ds_main.specs.Due.{IsDue, IsOfModule, IsDueText};
+ghost use Rattle.ds_main.specs.Ending.{reading, writing, Call, Ends};
 
 use crate::check::check;
 use crate::instrument::instrument;
@@ -38,16 +41,9 @@ fn answer<S: Source, K: Sink>(
 ) -> Ended
     ensures { let call : Call = record {
       words = texts words.now;
-      left = S.left source.old;
-      left_after = S.left source.new;
-      reads = S.faults source.old;
-      reads_after = S.faults source.new;
-      taken = K.taken sink.old;
-      taken_after = K.taken sink.new;
-      writes = K.faults sink.old;
-      writes_after = K.faults sink.new;
-      status = result.status;
-      run = result.run;
+      source = reading S.left S.faults source.old source.new;
+      sink = writing K.taken K.faults sink.old sink.new;
+      ended = result;
     } in Ends call }
 {
     match read_words(words) {
@@ -62,15 +58,15 @@ fn answer<S: Source, K: Sink>(
 
 /// Does the job that its words ask for, and tells by its result how that went.
 ///
-/// All three jobs read the source to its end and take its module only where that is accepted: it keeps all rules. `check` writes that to the sink,
-/// with how many functions the module defines and how many instructions they have. `instrument` writes the canonical text of the module. `replay` runs
-/// it, where it has the form that this stage runs, and writes the report of the run. No thread is started, and no pace is called.
+/// All three jobs read the source to its end and take its module only where that is accepted: it keeps all rules.
+/// `check` writes that to the sink, with how many functions the module defines and how many instructions they have.
+/// `instrument` writes the canonical text of the module. `replay` runs it, where it has the form that this stage runs,
+/// and writes the report of the run. No thread is started, and no pace is called.
 ///
-/// The status is 0 where the job was done, 3 where it was and a thread trapped, 2 where no job has these words, 4 where
-/// the source failed, 1 where the source held too many bytes or no accepted module for the job, 5 where the sink failed, and 6
-/// where memory ran out.
-/// With 1, 2 and 4 the line of the fault was written, and nothing was run. With 5 the sink has taken a front of what was
-/// due, and with 6 nothing.
+/// The status is 0 where the job was done, 3 where it was and a thread trapped, 2 where no job has these words, 4
+/// where the source failed, 1 where the source held too many bytes or no accepted module for the job, 5 where the sink
+/// failed, and 6 where memory ran out. With 1, 2 and 4 the line of the fault was written, and nothing was run. With 5
+/// the sink has taken a front of what was due, and with 6 nothing.
 pub fn dangsan_main<R: Threads + Sync, S: Source, K: Sink, P: Pace>(
     rt: &R,
     alloc: Global,
@@ -79,18 +75,29 @@ pub fn dangsan_main<R: Threads + Sync, S: Source, K: Sink, P: Pace>(
     sink: &mut K,
     pace: &P,
 ) -> Ended
-    // The main theorem. Where the record is not empty, the input spells an accepted module of the stage's form, at least one order of
-    // the recorded steps is legal, and every legal order is, without log steps, a run of the plain machine on it.
-    ensures headline { IsEmpty result.run ⊎ (IsJob (texts words.now) Job.Replay × IsRunOfInput (S.left source.old) result.run) }
-    // With status 0 and 3 of `replay` there is a run, the sink took its whole report, and the status is 3 exactly where a thread trapped.
-    ensures ran { IsJob (texts words.now) Job.Replay → IsRunStatus result.status → IsRunOfInput (S.left source.old) result.run }
-    ensures reported { IsJob (texts words.now) Job.Replay → IsRunStatus result.status → (text : List ℕ) × IsReport result.run.stops result.run.traces text
+    // The main theorem. Where the record is not empty, the input spells an accepted module of the stage's form, at
+    // least one order of the recorded steps is legal, and every legal order is, without log steps, a run of the plain
+    // machine on it. The recorded order is one of these, and every step in it is main's: the other 15 threads stand
+    // idle.
+    ensures headline { IsEmpty result.run
+        ⊎ (IsJob (texts words.now) Job.Replay × (m : Module) × IsRunOfInput (S.left source.old) m result.run) }
+    // With status 0 and 3 of `replay` there is a run, the sink took its whole report, by the names of the functions of
+    // the module that the input spells, and the status is 3 exactly where a thread trapped.
+    ensures ran { IsJob (texts words.now) Job.Replay → IsRunStatus result.status
+        → (m : Module) × IsRunOfInput (S.left source.old) m result.run }
+    ensures reported { IsJob (texts words.now) Job.Replay → IsRunStatus result.status
+        → (m : Module) × IsRunOfInput (S.left source.old) m result.run
+        × (text : List ℕ) × IsReport (function_names m) result.run.stops result.run.traces text
         × Takes (K.taken sink.old) text (K.taken sink.new) }
-    ensures run_status { IsJob (texts words.now) Job.Replay → IsRunStatus result.status → result.status ≡ run_status result.run.stops }
-    // With status 0 of `check` and `instrument` the input spells an accepted module, and the sink took the whole text due. 3 is of `replay` alone.
-    ensures checked { IsJob (texts words.now) Job.Check → result.status ≡ 0 → (m : Module) × IsModuleOfInput (S.left source.old) m
+    ensures run_status { IsJob (texts words.now) Job.Replay → IsRunStatus result.status
+        → result.status ≡ run_status result.run.stops }
+    // With status 0 of `check` and `instrument` the input spells an accepted module, and the sink took the whole text
+    // due. 3 is of `replay` alone.
+    ensures checked { IsJob (texts words.now) Job.Check → result.status ≡ 0
+        → (m : Module) × IsModuleOfInput (S.left source.old) m
         × Takes (K.taken sink.old) (accepted_text m) (K.taken sink.new) }
-    ensures instrumented { IsJob (texts words.now) Job.Instrument → result.status ≡ 0 → (m : Module) × IsModuleOfInput (S.left source.old) m
+    ensures instrumented { IsJob (texts words.now) Job.Instrument → result.status ≡ 0
+        → (m : Module) × IsModuleOfInput (S.left source.old) m
         × Takes (K.taken sink.old) (canon m) (K.taken sink.new) }
     ensures trap_status { result.status ≡ 3 → IsJob (texts words.now) Job.Replay }
     // With 0 and 3 the source was read to its end.
@@ -98,27 +105,38 @@ pub fn dangsan_main<R: Threads + Sync, S: Source, K: Sink, P: Pace>(
     // 2: exactly where no job has these words. 4: only where the source failed.
     ensures usage { result.status ≡ 2 → NoJob (texts words.now) }
     ensures usage_is_told { NoJob (texts words.now) → (result.status ≡ 2) ⊎ IsCutShort result.status }
-    ensures read_failed { result.status ≡ 4 → HasJob (texts words.now) × Rose (S.faults source.old) (S.faults source.new) }
-    // 1: exactly where the source held more than 8,388,608 bytes, no accepted module, or, for `replay`, a module of another form.
-    ensures refused { result.status ≡ 1 → (job : Job) × IsJob (texts words.now) job × Held (S.left source.old) (IsRefused job) }
-    ensures refusal_is_told { (job : Job) → IsJob (texts words.now) job → Held (S.left source.old) (λ bytes. IsRefused job bytes →
-        (result.status ≡ 1) ⊎ ((result.status ≡ 4) × Rose (S.faults source.old) (S.faults source.new)) ⊎ IsCutShort result.status) }
-    // 1, 2 and 4: the line of the first fault was written, nothing was run, and before a fault of the module the source was read to its end.
+    ensures read_failed { result.status ≡ 4
+        → HasJob (texts words.now) × Rose (S.faults source.old) (S.faults source.new) }
+    // 1: exactly where the source held more than 8,388,608 bytes, no accepted module, or, for `replay`, a module of
+    // another form.
+    ensures refused { result.status ≡ 1 → (job : Job) × IsJob (texts words.now) job
+        × Held (S.left source.old) (IsRefused job) }
+    ensures refusal_is_told { (job : Job) → IsJob (texts words.now) job
+        → Held (S.left source.old) (λ bytes. IsRefused job bytes →
+        (result.status ≡ 1) ⊎ ((result.status ≡ 4) × Rose (S.faults source.old) (S.faults source.new))
+        ⊎ IsCutShort result.status) }
+    // 1, 2 and 4: the line of the first fault was written, nothing was run, and before a fault of the module the
+    // source was read to its end.
     ensures fault_line { IsFaultStatus result.status → (fault : Fault) × (result.status ≡ status_of fault)
         × IsDue (texts words.now) (S.left source.old) (Rose (S.faults source.old) (S.faults source.new)) fault
-        × (IsOfModule fault → S.left source.new ≡ option_map (λ _. []) (S.left source.old)) × Takes (K.taken sink.old) (fault_text fault) (K.taken sink.new) }
+        × (IsOfModule fault → S.left source.new ≡ option_map (λ _. []) (S.left source.old))
+        × Takes (K.taken sink.old) (fault_text fault) (K.taken sink.new) }
     ensures nothing_run { IsFaultStatus result.status → IsEmpty result.run }
-    // 5: only where the sink failed, which has taken a front of what was due. 6: nothing was written. No other status comes.
+    // 5: only where the sink failed, which has taken a front of what was due. 6: nothing was written. No other status
+    // comes.
     ensures write_failed { result.status ≡ 5 → Rose (K.faults sink.old) (K.faults sink.new) × (text : List ℕ)
-        × IsDueText (texts words.now) (S.left source.old) (Rose (S.faults source.old) (S.faults source.new)) result.run text
+        × IsDueText (texts words.now) (S.left source.old) (Rose (S.faults source.old) (S.faults source.new)) result.run
+        text
         × TakesFront (K.taken sink.old) text (K.taken sink.new) }
     ensures out_of_memory { result.status ≡ 6 → K.taken sink.new ≡ K.taken sink.old }
     ensures statuses { IsStatus result.status }
     // A module that is accepted for `replay` is run, unless the source failed or memory ran out.
-    ensures run_is_made { IsJob (texts words.now) Job.Replay → Held (S.left source.old) (λ bytes. IsAccepted Job.Replay bytes →
+    ensures run_is_made { IsJob (texts words.now) Job.Replay
+        → Held (S.left source.old) (λ bytes. IsAccepted Job.Replay bytes →
         ¬ Rose (S.faults source.old) (S.faults source.new) → IsEmpty result.run → result.status ≡ 6) }
     // Completeness: where moreover the sink did not fail, the job is done.
-    ensures complete { (job : Job) → IsJob (texts words.now) job → Held (S.left source.old) (λ bytes. IsAccepted job bytes →
+    ensures complete { (job : Job) → IsJob (texts words.now) job
+        → Held (S.left source.old) (λ bytes. IsAccepted job bytes →
         ¬ Rose (S.faults source.old) (S.faults source.new) → ¬ Rose (K.faults sink.old) (K.faults sink.new) →
         IsRunStatus result.status ⊎ (result.status ≡ 6)) }
 {

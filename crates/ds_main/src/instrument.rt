@@ -3,10 +3,10 @@
 ghost use Rattle.std.specs.Prelude.{◌≡◌};
 ghost use Rattle.ds_print.specs.Canonical.{canon};
 ghost use Rattle.ds_main.specs.declared.job.Job.TheVariants as jobs;
-ghost use Rattle.ds_main.specs.Ending.{AnswerEnds};
+ghost use Rattle.ds_main.specs.Ending.{reading, writing, AnswerEnds};
 
 use crate::deliver::{DONE, deliver};
-use crate::input::read_module;
+use crate::input::accepted_module;
 use crate::refuse::{out_of_memory, stop};
 use ds_core::{Ended, RunRecord};
 use ds_io::{Sink, Source};
@@ -15,10 +15,10 @@ use std::alloc::Global;
 
 /// Reads a module and writes its canonical text.
 pub fn instrument<S: Source, K: Sink>(alloc: Global, source: &mut S, sink: &mut K) -> Ended
-    ensures { AnswerEnds jobs.Instrument canon (S.left source.old) (S.left source.new) (S.faults source.old) (S.faults source.new)
-        (K.taken sink.old) (K.taken sink.new) (K.faults sink.old) (K.faults sink.new) result.status result.run }
+    ensures { AnswerEnds jobs.Instrument canon (reading S.left S.faults source.old source.new)
+        (writing K.taken K.faults sink.old sink.new) result }
 {
-    let module = match read_module(alloc, source) {
+    let module = match accepted_module(alloc, source) {
         Ok(module) => module,
         Err(why) => return stop(alloc, sink, &why),
     };

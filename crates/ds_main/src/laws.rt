@@ -1,6 +1,6 @@
 //! The law of inputs, from those of texts, layouts and checks.
 
-ghost use Rattle.ds_main.specs.Input.{AcceptedInputsAreNotRefused};
+ghost use Rattle.ds_main.specs.Refusal.{AcceptedInputsAreNotRefused};
 
 use ds_check::accepted_are_not_refused;
 use ds_parse::{texts_are_not_refused, texts_spell_one_module};

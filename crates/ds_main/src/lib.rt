@@ -1,5 +1,5 @@
-//! The top call of `dangsan`: reads a module that keeps all rules, and tells how much it has, writes its canonical text, or runs it on shared words and
-//! reports what happened.
+//! The top call of `dangsan`: reads a module that keeps all rules, and tells how much it has, writes its canonical
+//! text, or runs it on shared words and reports what happened.
 #![tactic(auto)]
 
 mod accept;
@@ -11,11 +11,11 @@ mod input;
 mod instrument;
 mod job;
 mod laws;
+mod no_module;
 mod pace;
 mod refuse;
 mod replay;
 mod run;
-
 #[cfg(test)]
 mod tests;
 

@@ -1,13 +1,13 @@
 //! Tells a fault, and runs nothing.
 
-ghost use Rattle.std.specs.Prelude.{◌≡◌, ◌⊎◌};
-ghost use Rattle.ds_report.specs.Fault.{fault_text};
+ghost use Rattle.std.specs.Prelude.{◌≡◌};
 ghost use Rattle.ds_main.specs.Run.{IsEmpty};
-ghost use Rattle.ds_main.specs.Ending.{status_of, Delivers, Unwritten};
+ghost use Rattle.ds_main.specs.Status.{status_of};
+ghost use Rattle.ds_main.specs.Ending.{writing, FaultEnds};
 ghost use Rattle.ds_main.specs.Stopped.{StoppedBy};
 
 use crate::deliver::{OUT_OF_MEMORY, deliver};
-use crate::input::NoModule;
+use crate::no_module::NoModule;
 use ds_core::{Ended, RunRecord};
 use ds_io::Sink;
 use ds_report::{Fault, fault_line};
@@ -41,9 +41,7 @@ pub fn out_of_memory(alloc: Global) -> Ended
 
 /// Ends a call by a fault: its line is written, and nothing is run.
 pub fn refuse<K: Sink>(alloc: Global, sink: &mut K, fault: &Fault) -> Ended
-    ensures told { Delivers (fault_text fault.now) (status_of fault.now) (K.taken sink.old) (K.taken sink.new) (K.faults sink.old) (K.faults sink.new) result.status
-        ⊎ Unwritten (K.taken sink.old) (K.taken sink.new) result.status }
-    ensures empty { IsEmpty result.run }
+    ensures { FaultEnds fault.now (writing K.taken K.faults sink.old sink.new) result }
 {
     match fault_line(alloc, fault) {
         Ok(line) => Ended {
@@ -56,8 +54,7 @@ pub fn refuse<K: Sink>(alloc: Global, sink: &mut K, fault: &Fault) -> Ended
 
 /// Ends a call whose input gives no module: the line of its fault is written, if it has one, and nothing is run.
 pub fn stop<K: Sink>(alloc: Global, sink: &mut K, why: &NoModule) -> Ended
-    ensures told { StoppedBy why.now (K.taken sink.old) (K.taken sink.new) (K.faults sink.old) (K.faults sink.new) result.status }
-    ensures empty { IsEmpty result.run }
+    ensures { StoppedBy why.now (writing K.taken K.faults sink.old sink.new) result }
 {
     match why {
         NoModule::Refused(fault) => refuse(alloc, sink, fault),

@@ -9,7 +9,8 @@ IsMapped-stacks lim address low high =
     inr (inl ((address - 0x100000) / 0x8000, omega arith, (omega arith, omega arith)))
 
 -- a mapped address between the globals and the heap lies among the stacks
-pub lt-end-of-IsMapped : (lim : Bounds) (address : ℕ) → IsMapped lim address → 0x100000 ≤ address → address < 0x1000000 → address < 0x180000
+pub lt-end-of-IsMapped : (lim : Bounds) (address : ℕ) → IsMapped lim address → 0x100000 ≤ address → address < 0x1000000
+    → address < 0x180000
 lt-end-of-IsMapped lim address (inl p) low high = omega arith
 lt-end-of-IsMapped lim address (inr (inl p)) low high = let a = p.1 in let b = p.2.1 in omega arith
 lt-end-of-IsMapped lim address (inr (inr p)) low high = omega arith

@@ -1,5 +1,7 @@
--- Where program memory lies: addresses are in bytes, a word has 8 bytes, and a location is the number of a program word.
-use Rattle.std.specs.Prelude.{◌≡◌, ℕ, ◌+◌, ◌-◌, ◌*◌, ◌/◌, ◌%◌, ◌<◌, ◌≤◌, ◌⊎◌, Bool, ◌&&◌, nat_le, nat_lt, if◌then◌else◌, Option, Some, None}
+-- Where program memory lies: addresses are in bytes, a word has 8 bytes, and a location is the number of a program
+-- word.
+use Rattle.std.specs.Prelude.{◌≡◌, ℕ, ◌+◌, ◌-◌, ◌*◌, ◌/◌, ◌%◌, ◌<◌, ◌≤◌, ◌⊎◌, Bool, ◌&&◌, nat_le, nat_lt}
+use Rattle.std.specs.Prelude.{if◌then◌else◌, Option, Some, None}
 use Rattle.ds_map.specs.Bounds.{Bounds}
 
 -- a stretch of memory: its first address, its number of words, and the location of its first word
@@ -30,7 +32,8 @@ LiesIn region address = (region.start ≤ address) × (address < region.start + 
 
 -- the byte at this address lies in the globals, in the stack of one of the 16 threads, or in the heap
 abbrev pub IsMapped : Bounds → ℕ → Type 0
-IsMapped lim address = LiesIn globals address ⊎ ((t : ℕ) × (t < 16) × LiesIn (stack t) address) ⊎ LiesIn (heap lim) address
+IsMapped lim address =
+    LiesIn globals address ⊎ ((t : ℕ) × (t < 16) × LiesIn (stack t) address) ⊎ LiesIn (heap lim) address
 
 -- an access of this many bytes is good: it lies in a region, and its address is a multiple of its width
 abbrev pub IsGood : Bounds → ℕ → ℕ → Type 0

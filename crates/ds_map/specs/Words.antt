@@ -46,4 +46,5 @@ first_control_words = slice_set (slice_set (replicate control_words 0) 1 1) 16 1
 -- the table's words at the start, for an image of the globals of at most 4,096 words: all that are not named are 0
 unfoldable pub first_words : Bounds → List ℕ → List ℕ
 first_words lim image =
-    first_control_words ++ replicate (first_program_word lim - control_words) 0 ++ image ++ replicate (program_words lim - length image) 0
+    first_control_words ++ replicate (first_program_word lim - control_words) 0 ++ image
+    ++ replicate (program_words lim - length image) 0

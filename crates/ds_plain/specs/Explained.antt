@@ -1,5 +1,6 @@
 -- What it means that a recorded run is one of the program.
-use Rattle.std.specs.Prelude.{◌≡◌, ℕ, ◌<◌, Bool, true, false, List, [], length, take, drop, slice_index, slice_index_or}
+use Rattle.std.specs.Prelude.{◌≡◌, ℕ, ◌<◌, Bool, true, false, List, [], length, take, drop, slice_index}
+use Rattle.std.specs.Prelude.{slice_index_or}
 use Rattle.ds_map.specs.Bounds.{Bounds}
 use Rattle.ds_map.specs.Words.{first_program_word, first_words}
 use Rattle.ds_step.specs.declared.Step.{Step}
@@ -51,11 +52,13 @@ pub record IsRecord (program : Program) (lim : Bounds) (stops : List Stop) (trac
   pub sixteen_stops : length stops ≡ 16
   pub sixteen_traces : length traces ≡ 16
   pub follows : (t : ℕ) → t < 16 → Follows lim t (first_thread lim program t) (trace_of traces t)
-  pub ends : (t : ℕ) → t < 16 → stop_in stops t ≡ stop_of (thread_after lim t (first_thread lim program t) (trace_of traces t))
+  pub ends : (t : ℕ) → t < 16
+      → stop_in stops t ≡ stop_of (thread_after lim t (first_thread lim program t) (trace_of traces t))
   pub main_ended : HasEnded (stop_in stops 0)
 
 -- In this order the recorded steps are a run of the plain machine on the program, and the stops are that run's.
-pub record IsExplained (program : Program) (lim : Bounds) (image : List ℕ) (stops : List Stop) (traces : List (List Step)) (h : History) : Type 0 where
+pub record IsExplained (program : Program) (lim : Bounds) (image : List ℕ) (stops : List Stop)
+    (traces : List (List Step)) (h : History) : Type 0 where
   -- every operation was answered what its word held
   pub legal : IsLegal (first_words lim image) h
   -- every thread makes the steps of the step table, for what its behaviour asks
@@ -63,21 +66,25 @@ pub record IsExplained (program : Program) (lim : Bounds) (image : List ℕ) (st
   -- without log steps the history is a run of the plain machine
   pub plain : IsPlainRun program (out_of_fuel_in stops) (first_state lim image) (erase h)
   -- at every moment the words say what the plain state says
-  pub agrees : (k : ℕ) → Agrees lim (words_left (first_words lim image) (take k h)) (plain_state program lim image stops (take k h))
+  pub agrees : (k : ℕ)
+      → Agrees lim (words_left (first_words lim image) (take k h)) (plain_state program lim image stops (take k h))
   -- each recorded stop is the plain run's
   pub ends : (t : ℕ) → t < 16 → stop_in stops t ≡ stop_of_phase ((plain_state program lim image stops h).phases t)
   pub main_ended : HasEnded (stop_in stops 0)
 
 -- taken in this order of threads the traces are a history in which every step was answered what its word held
 abbrev pub IsLegalOrder : Bounds → List ℕ → List (List Step) → List ℕ → Type 0
-IsLegalOrder lim image traces order = (h : History) × (threads_of h ≡ order) × Interleaves traces h × IsLegal (first_words lim image) h
+IsLegalOrder lim image traces order =
+    (h : History) × (threads_of h ≡ order) × Interleaves traces h × IsLegal (first_words lim image) h
 
 -- some order of the traces is one in which every step was answered what its word held
 abbrev pub HasLegalOrder : Bounds → List ℕ → List (List Step) → Type 0
 HasLegalOrder lim image traces = ∥ ((h : History) × Interleaves traces h × IsLegal (first_words lim image) h) ∥₁
 
--- These traces follow the step table, in this order they are legal and leave these words, and they leave the threads there.
-pub record Stands (program : Program) (lim : Bounds) (image : List ℕ) (traces : List (List Step)) (h : History) (words : List ℕ) (threads : ℕ → Thread) : Type 0 where
+-- These traces follow the step table, in this order they are legal and leave these words, and they leave the threads
+-- there.
+pub record Stands (program : Program) (lim : Bounds) (image : List ℕ) (traces : List (List Step)) (h : History)
+    (words : List ℕ) (threads : ℕ → Thread) : Type 0 where
   pub interleaves : Interleaves traces h
   pub legal : IsLegal (first_words lim image) h
   pub left : words_left (first_words lim image) h ≡ words
@@ -85,6 +92,8 @@ pub record Stands (program : Program) (lim : Bounds) (image : List ℕ) (traces 
   pub at : (t : ℕ) → thread_after lim t (first_thread lim program t) (trace_of traces t) ≡ threads t
 
 -- The main theorem's words: at least one order of the recorded steps is legal, and every legal order is explained.
-pub record IsRunOf (program : Program) (lim : Bounds) (image : List ℕ) (stops : List Stop) (traces : List (List Step)) : Type 0 where
+pub record IsRunOf (program : Program) (lim : Bounds) (image : List ℕ) (stops : List Stop)
+    (traces : List (List Step)) : Type 0 where
   pub some_order : HasLegalOrder lim image traces
-  pub every_order : (h : History) → Interleaves traces h → IsLegal (first_words lim image) h → IsExplained program lim image stops traces h
+  pub every_order : (h : History) → Interleaves traces h → IsLegal (first_words lim image) h
+      → IsExplained program lim image stops traces h

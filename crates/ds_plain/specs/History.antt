@@ -15,7 +15,8 @@ abbrev pub steps_of : ℕ → History → List Step
 steps_of t [] = []
 steps_of t (e ∷ es) = if t == e.0 then e.1 ∷ steps_of t es else steps_of t es
 
--- the history takes the traces, each to its end and in its own order; a trace stands at the place of its thread's number
+-- the history takes the traces, each to its end and in its own order; a trace stands at the place of its thread's
+-- number
 abbrev pub Interleaves : List (List Step) → History → Type 0
 Interleaves traces h = (t : ℕ) → steps_of t h ≡ slice_index_or traces t []
 

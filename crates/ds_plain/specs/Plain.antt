@@ -1,5 +1,6 @@
 -- The plain machine: threads that print, load, store and end, with no shared table and no log.
-use Rattle.std.specs.Prelude.{◌≡◌, ℕ, ◌-◌, Bool, true, ◌⊎◌, ◌==◌, if◌then◌else◌, List, [], ◌∷◌, ◌++◌, length, replicate, slice_index, slice_set}
+use Rattle.std.specs.Prelude.{◌≡◌, ℕ, ◌-◌, Bool, true, ◌⊎◌, ◌==◌, if◌then◌else◌, List, [], ◌∷◌, ◌++◌, length}
+use Rattle.std.specs.Prelude.{replicate, slice_index, slice_set}
 use Rattle.ds_map.specs.Bounds.{Bounds}
 use Rattle.ds_map.specs.Regions.{program_words}
 use Rattle.ds_step.specs.declared.Event.{Event}
@@ -30,13 +31,20 @@ pub record State : Type 0 where
   -- what the program memory's words hold, by location
   pub words : List ℕ
 
--- thread 0 may begin to run main, and no other thread was given out
+-- thread 0 may begin, and no other thread was given out; what it runs is main, whatever number that has: the program
+-- knows it
 abbrev pub first_phase : ℕ → Phase
 first_phase t = if t == 0 then Ready 0 0 else NotGiven
 
 -- at the start the globals hold their image, and every other word 0
 abbrev pub first_state : Bounds → List ℕ → State
-first_state lim image = record { out = []; given = 1; phases = first_phase; words = image ++ replicate (program_words lim - length image) 0 }
+first_state lim image =
+    record {
+      out = [];
+      given = 1;
+      phases = first_phase;
+      words = image ++ replicate (program_words lim - length image) 0;
+    }
 
 -- f with the value x at t
 abbrev pub replaced : {A : Type 0} → (ℕ → A) → ℕ → A → ℕ → A
@@ -65,7 +73,8 @@ IsStopped (Stopped stop) = Unit {0}
 abbrev pub Allowed : (ℕ → Bool) → State → ℕ → Event → Type 0
 Allowed out_of_fuel s t Begin = IsReady (s.phases t)
 Allowed out_of_fuel s t (Print number value) = AsksFor (s.phases t) (requests.Print value) × (number ≡ length s.out)
-Allowed out_of_fuel s t End = (¬ IsStopped (s.phases t)) × (((stop : Stop) × AsksFor (s.phases t) (requests.Finish stop)) ⊎ (out_of_fuel t ≡ true))
+Allowed out_of_fuel s t End = (¬ IsStopped (s.phases t))
+    × (((stop : Stop) × AsksFor (s.phases t) (requests.Finish stop)) ⊎ (out_of_fuel t ≡ true))
 Allowed out_of_fuel s t (Load loc value) = AsksFor (s.phases t) (requests.Load loc) × (value ≡ slice_index s.words loc)
 Allowed out_of_fuel s t (Store loc value) = AsksFor (s.phases t) (requests.Store loc value)
 Allowed out_of_fuel s t event = ⊥
@@ -113,7 +122,8 @@ changed program out_of_fuel s t (Print number value) =
     record s { out = s.out ++ value ∷ []; phases = replaced s.phases t (answered 0 (s.phases t)) }
 changed program out_of_fuel s t End =
     record s { phases = replaced s.phases t (Stopped (if out_of_fuel t then Fuel else named_stop (s.phases t))) }
-changed program out_of_fuel s t (Load loc value) = record s { phases = replaced s.phases t (answered value (s.phases t)) }
+changed program out_of_fuel s t (Load loc value) =
+    record s { phases = replaced s.phases t (answered value (s.phases t)) }
 changed program out_of_fuel s t (Store loc value) =
     record s { words = slice_set s.words loc value; phases = replaced s.phases t (answered 0 (s.phases t)) }
 changed program out_of_fuel s t event = s
@@ -121,7 +131,8 @@ changed program out_of_fuel s t event = s
 -- each event is allowed in the state that the events before it leave
 abbrev pub IsPlainRun : Program → (ℕ → Bool) → State → List (ℕ × Event) → Type 0
 IsPlainRun program out_of_fuel s [] = Unit {0}
-IsPlainRun program out_of_fuel s (e ∷ es) = Allowed out_of_fuel s e.0 e.1 × IsPlainRun program out_of_fuel (changed program out_of_fuel s e.0 e.1) es
+IsPlainRun program out_of_fuel s (e ∷ es) =
+    Allowed out_of_fuel s e.0 e.1 × IsPlainRun program out_of_fuel (changed program out_of_fuel s e.0 e.1) es
 
 -- the state after these events
 abbrev pub state_after : Program → (ℕ → Bool) → State → List (ℕ × Event) → State

@@ -18,22 +18,24 @@ abbrev pub value_of : List ℕ → SmallValue → ℕ
 value_of answers (Number n) = n
 value_of answers (Result k) = slice_index answers k
 
--- how main ends where its instruction i goes through the null pointer
-abbrev pub null_stop : ℕ → Stop
-null_stop i = Trap (record { place = record { function = 0; instruction = i }; kind = BadAddress 0 })
+-- how main, the function of this number, ends where its instruction i goes through the null pointer
+abbrev pub null_stop : (main i : ℕ) → Stop
+null_stop main i = Trap (record { place = record { function = main; instruction = i }; kind = BadAddress 0 })
 
--- what instruction i asks for, after the answers to the instructions before it: global n is location n, and behind the last instruction main returns
-abbrev pub request_at : ℕ → List ℕ → Option SmallOp → Request
-request_at i answers (Some (Load (Global n))) = requests.Load n
-request_at i answers (Some (Load Null)) = requests.Finish (null_stop i)
-request_at i answers (Some (Store value (Global n))) = requests.Store n (value_of answers value)
-request_at i answers (Some (Store value Null)) = requests.Finish (null_stop i)
-request_at i answers (Some (Print value)) = requests.Print (value_of answers value)
-request_at i answers None = requests.Finish (Returned None)
+-- what instruction i of main, the function of this number, asks for after the answers to the instructions before it:
+-- global n is location n, and behind the last instruction main returns
+abbrev pub request_at : (main i : ℕ) → List ℕ → Option SmallOp → Request
+request_at main i answers (Some (Load (Global n))) = requests.Load n
+request_at main i answers (Some (Load Null)) = requests.Finish (null_stop main i)
+request_at main i answers (Some (Store value (Global n))) = requests.Store n (value_of answers value)
+request_at main i answers (Some (Store value Null)) = requests.Finish (null_stop main i)
+request_at main i answers (Some (Print value)) = requests.Print (value_of answers value)
+request_at main i answers None = requests.Finish (Returned None)
 
 -- What main asks after these answers: each instruction asks once, so the next one is that with the number of answers.
 abbrev pub asked_of : Module → List ℕ → Asked
-asked_of small answers = Asks 1 (request_at (length answers) answers (slice_get small.code (length answers)))
+asked_of small answers =
+    Asks 1 (request_at small.main (length answers) answers (slice_get small.code (length answers)))
 
 -- the program of a module; only main is ever started
 abbrev pub program_of : Module → Program

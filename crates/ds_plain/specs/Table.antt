@@ -57,7 +57,8 @@ event_at t (Over stop) old = events.Log
 
 -- the step that thread t makes at a position, by its answer
 abbrev pub step_at : Bounds → ℕ → Position → ℕ → Step
-step_at lim t position old = record { op = op_at lim t position; old = old; row = row_at position; event = event_at t position old }
+step_at lim t position old =
+    record { op = op_at lim t position; old = old; row = row_at position; event = event_at t position old }
 
 -- the first position of a request
 abbrev pub position_of : Request → Position

@@ -6,7 +6,7 @@
 /// Where an instruction stands in the program's text.
 #[derive(Clone, Copy, Debug, PartialEq, Eq)]
 pub struct Place {
-    /// The number of its function among all functions, from 0.
+    /// The number of its function among all functions of the text, declared ones too, from 0.
     pub function: u32,
     /// Its number among the instructions of its function, from 0.
     pub instruction: u32,

@@ -1,10 +1,11 @@
 -- The line of each fault.
-use Rattle.std.specs.Prelude.{ℕ, Bool, true, false, ◌==◌, ◌&&◌, if◌then◌else◌, Option, Some, None, List, [], ◌∷◌, ◌++◌, slice_get, codes, decimal}
+use Rattle.std.specs.Prelude.{ℕ, Bool, true, false, ◌==◌, ◌&&◌, if◌then◌else◌, List, [], ◌∷◌, ◌++◌, codes, decimal}
 use Rattle.ds_ast.specs.declared.name.Name.{Name}
 use Rattle.ds_check.specs.declared.fault.CountKind.{CountKind}
 use Rattle.ds_check.specs.declared.fault.CountKind.TheVariants.{Functions, Instructions, Params, GlobalWords}
 use Rattle.ds_check.specs.declared.fault.TypeFault.{TypeFault}
-use Rattle.ds_check.specs.declared.fault.TypeFault.TheVariants.{Twice, TooMany, BadExternal, TwiceLocal, BadBlock, Undefined, WrongType, BadPhi, NotDominating, NoMain}
+use Rattle.ds_check.specs.declared.fault.TypeFault.TheVariants.{Twice, TooMany, BadExternal, TwiceLocal, BadBlock}
+use Rattle.ds_check.specs.declared.fault.TypeFault.TheVariants.{Undefined, WrongType, BadPhi, NotDominating, NoMain}
 use Rattle.ds_check.specs.declared.fault.TypeFault.TheVariants as check
 use Rattle.ds_lex.specs.declared.fault.LexFault.{LexFault}
 use Rattle.ds_lex.specs.declared.fault.LexFault.TheVariants.{BadByte, BadName, BadNumber, OpenText}
@@ -16,6 +17,7 @@ use Rattle.ds_print.specs.Names.{local, global}
 use Rattle.ds_shape.specs.declared.fault.ShapeFault.{ShapeFault}
 use Rattle.ds_shape.specs.declared.fault.ShapeFault.TheVariants.{TwiceType, Unknown, RecursiveType, TooLarge}
 use Rattle.ds_shape.specs.declared.fault.ShapeFault.TheVariants as shape
+use Rattle.ds_report.specs.Function.{function_text}
 use Rattle.ds_report.specs.declared.fault.Fault.{Fault}
 use Rattle.ds_report.specs.declared.fault.Fault.TheVariants.{Usage, Read, TooLong, Parse, Shape, Check, OtherForm}
 
@@ -61,26 +63,21 @@ shape_text (RecursiveType name) = local_line (codes "recursive type") name
 shape_text (TooLarge name is_struct) = large_line is_struct name
 shape_text shape.Memory = []
 
--- the name of a function, and nothing where there is none
-abbrev pub name_text : Option Name → List ℕ
-name_text (Some name) = written (global name ∷ [])
-name_text None = []
-
--- the function of a number, of the module whose functions have these names in the order of the text; a number that no function has is told by nothing
-abbrev pub function_text : List Name → ℕ → List ℕ
-function_text names f = codes " in " ++ name_text (slice_get names f)
-
 -- what is wrong with an instruction of a function
 abbrev pub instruction_line : List Name → List ℕ → ℕ → ℕ → List ℕ
-instruction_line names what f i = codes "error: " ++ what ++ function_text names f ++ codes " instruction " ++ decimal i ++ codes "\n"
+instruction_line names what f i =
+    codes "error: " ++ what ++ function_text names f ++ codes " instruction " ++ decimal i ++ codes "\n"
 
 -- what is wrong with the parameter, label or result of this name of a function
 abbrev pub inner_line : List Name → List ℕ → ℕ → Name → List ℕ
-inner_line names what f name = codes "error: " ++ what ++ codes " " ++ written (local name ∷ []) ++ function_text names f ++ codes "\n"
+inner_line names what f name =
+    codes "error: " ++ what ++ codes " " ++ written (local name ∷ []) ++ function_text names f ++ codes "\n"
 
 -- a wrong type stands in a global where both numbers are 2^32 - 1, and else in an instruction
 abbrev pub wrong_type_line : List Name → ℕ → ℕ → List ℕ
-wrong_type_line names f i = if f == 4294967295 && i == 4294967295 then codes "error: wrong type in a global\n" else instruction_line names (codes "wrong type") f i
+wrong_type_line names f i =
+    if f == 4294967295 && i == 4294967295 then codes "error: wrong type in a global\n"
+    else instruction_line names (codes "wrong type") f i
 
 -- what there are too many of
 abbrev pub kind_text : CountKind → List ℕ
@@ -93,7 +90,8 @@ kind_text GlobalWords = codes "global words"
 abbrev pub count_line : CountKind → ℕ → List ℕ
 count_line what limit = codes "error: too many " ++ kind_text what ++ codes ", limit " ++ decimal limit ++ codes "\n"
 
--- the line that tells why a module with a layout is not accepted, by the names of its functions in the order of the text; want of memory has none
+-- the line that tells why a module with a layout is not accepted, by the names of its functions in the order of the
+-- text; want of memory has none
 abbrev pub check_text : List Name → TypeFault → List ℕ
 check_text names (Twice name) = global_line (codes "twice") name
 check_text names (TooMany what limit) = count_line what limit

@@ -1,3 +1,4 @@
+pub mod Function
 pub mod Fault
 pub mod Prints
 pub mod Report

@@ -1,8 +1,10 @@
 -- The report of a run.
-use Rattle.std.specs.Prelude.{◌≡◌, ℕ, ◌+◌, List, [], ◌∷◌, ◌++◌, length, Some, None, Bool, true, false, count_by, codes, decimal}
+use Rattle.std.specs.Prelude.{◌≡◌, ℕ, ◌+◌, List, [], ◌∷◌, ◌++◌, length, Some, None, Bool, true, false, count_by, codes}
+use Rattle.std.specs.Prelude.{decimal}
 use Rattle.std.specs.Fmt.{digits, signed_decimal}
 use Rattle.std.specs.Int.{cast_signed, w32, w64}
 use Rattle.std.specs.List.{flat_map}
+use Rattle.ds_ast.specs.declared.name.Name.{Name}
 use Rattle.ds_step.specs.declared.Step.{Step}
 use Rattle.ds_plain.specs.declared.Stop.{Stop}
 use Rattle.ds_plain.specs.declared.Stop.TheVariants.{Idle, Running, Returned, Fuel, Trap}
@@ -11,6 +13,7 @@ use Rattle.ds_plain.specs.declared.TrapKind.{TrapKind}
 use Rattle.ds_plain.specs.declared.TrapKind.TheVariants.{BadAddress}
 use Rattle.ds_plain.specs.Explained.{stop_in}
 use Rattle.ds_report.specs.declared.prints.Print.{Print}
+use Rattle.ds_report.specs.Function.{function_text}
 use Rattle.ds_report.specs.Prints.{all_prints, IsInOrder}
 
 -- a print's value as a signed decimal number
@@ -25,23 +28,25 @@ address_text address = codes "0x" ++ digits 16 false address
 abbrev pub trap_text : TrapKind → List ℕ
 trap_text (BadAddress address) = codes "bad address " ++ address_text address
 
--- the line of a thread that trapped
-abbrev pub trap_line : ℕ → traps.Trap → List ℕ
-trap_line thread trap =
-    codes "trap thread " ++ decimal thread ++ codes " in @main instruction " ++ decimal trap.place.instruction ++ codes ": " ++ trap_text trap.kind ++ codes "\n"
+-- the line of a thread that trapped, by the names of all functions of the module in the order of the text
+abbrev pub trap_line : List Name → ℕ → traps.Trap → List ℕ
+trap_line names thread trap =
+    codes "trap thread " ++ decimal thread ++ function_text names trap.place.function ++ codes " instruction "
+    ++ decimal trap.place.instruction
+    ++ codes ": " ++ trap_text trap.kind ++ codes "\n"
 
 -- the line of a thread that did not come to the end of its function
-abbrev pub stop_line : ℕ → Stop → List ℕ
-stop_line thread Idle = []
-stop_line thread Running = []
-stop_line thread (Returned value) = []
-stop_line thread Fuel = codes "fuel thread " ++ decimal thread ++ codes "\n"
-stop_line thread (Trap trap) = trap_line thread trap
+abbrev pub stop_line : List Name → ℕ → Stop → List ℕ
+stop_line names thread Idle = []
+stop_line names thread Running = []
+stop_line names thread (Returned value) = []
+stop_line names thread Fuel = codes "fuel thread " ++ decimal thread ++ codes "\n"
+stop_line names thread (Trap trap) = trap_line names thread trap
 
 -- the lines of the threads from this number on
-abbrev pub stop_lines : ℕ → List Stop → List ℕ
-stop_lines thread [] = []
-stop_lines thread (stop ∷ stops) = stop_line thread stop ++ stop_lines (thread + 1) stops
+abbrev pub stop_lines : List Name → ℕ → List Stop → List ℕ
+stop_lines names thread [] = []
+stop_lines names thread (stop ∷ stops) = stop_line names thread stop ++ stop_lines names (thread + 1) stops
 
 -- how main ended; a run is reported only when it has
 abbrev pub how_text : Stop → List ℕ
@@ -62,9 +67,13 @@ is_trap (Trap trap) = true
 -- the last line, by how main ended and the numbers of prints and of threads that trapped
 abbrev pub summary_line : Stop → ℕ → ℕ → List ℕ
 summary_line main prints traps =
-    codes "main " ++ how_text main ++ codes "; prints " ++ decimal prints ++ codes " mallocs 0 frees 0 notes 0 marks 0 traps " ++ decimal traps ++ codes "\n"
+    codes "main " ++ how_text main ++ codes "; prints " ++ decimal prints
+    ++ codes " mallocs 0 frees 0 notes 0 marks 0 traps " ++ decimal traps ++ codes "\n"
 
--- a line for each print, in the order of their numbers; the stop lines in the order of the threads; and the summary
-abbrev pub IsReport : List Stop → List (List Step) → List ℕ → Type 0
-IsReport stops traces text =
-    (prints : List Print) × IsInOrder (all_prints traces) prints × (text ≡ flat_map print_line prints ++ stop_lines 0 stops ++ summary_line (stop_in stops 0) (length prints) (count_by is_trap stops))
+-- The report of a run of the module whose functions have these names: a line for each print, in the order of their
+-- numbers; the stop lines in the order of the threads; and the summary.
+abbrev pub IsReport : List Name → List Stop → List (List Step) → List ℕ → Type 0
+IsReport names stops traces text =
+    (prints : List Print) × IsInOrder (all_prints traces) prints
+    × (text ≡ flat_map print_line prints ++ stop_lines names 0 stops ++ summary_line (stop_in stops 0) (length prints)
+    (count_by is_trap stops))

@@ -1,11 +1,12 @@
 //! The faults that end a call before anything is run.
 
-ghost use Rattle.std.specs.Prelude.{◌≡◌, ◌++◌, option_copied, slice_get, OnOk, IfOk};
+ghost use Rattle.std.specs.Prelude.{◌≡◌, ◌++◌, OnOk, IfOk};
 ghost use Rattle.ds_report.specs.Fault.{place_text, lexical_text, parse_text, fault_text};
 ghost use Rattle.ds_report.specs.Fault.{local_line, global_line, large_line, shape_text};
-ghost use Rattle.ds_report.specs.Fault.{function_text, instruction_line, inner_line, wrong_type_line, kind_text, count_line, check_text};
+ghost use Rattle.ds_report.specs.Fault.{instruction_line, inner_line, wrong_type_line, kind_text, count_line};
+ghost use Rattle.ds_report.specs.Fault.{check_text};
 
-use crate::text::{push, push_number};
+use crate::text::{push, push_function, push_number};
 use ds_ast::{List, Name};
 use ds_check::{CountKind, TypeFault};
 use ds_grammar::ParseFault;
@@ -23,13 +24,13 @@ pub enum Fault {
     Read,
     /// The input has more than 8,388,608 bytes.
     TooLong,
-    /// The input spells no module. Want of memory is no such fault: it is told by the status of the call alone, and has
-    /// no line.
+    /// The input spells no module. Want of memory is no such fault: it is told by the status of the call alone, and
+    /// has no line.
     Parse(ParseFault),
     /// The module has no layout. Want of memory has no line here either.
     Shape(ShapeFault),
-    /// The module has a layout, and is not accepted. The names are those of all functions of the module in the order of the text, of which the fault tells
-    /// numbers. Want of memory has no line here either.
+    /// The module has a layout, and is not accepted. The names are those of all functions of the module in the order
+    /// of the text, of which the fault tells numbers. Want of memory has no line here either.
     Check(TypeFault, List<Name>),
     /// The module is not of the form that this stage runs.
     OtherForm,
@@ -240,22 +241,4 @@ fn push_instruction_line(
     push_number(line, i)?;
     push(line, b"\n")?;
     Ok(())
-}
-
-/// Adds in which function a fault is. A number that no function has is told by nothing.
-fn push_function(line: &mut Vec<u8>, names: &[Name], f: u32) -> Result<(), AllocError>
-    ensures { OnOk result (line.new.items ≡ line.old.items ++ function_text names.now f) }
-{
-    push(line, b" in ")?;
-    if let Some(name) = name_at(names, f as usize) {
-        push_global(line, name)?;
-    }
-    Ok(())
-}
-
-/// The name at a place of a list.
-fn name_at(names: &[Name], place: usize) -> Option<&Name>
-    ensures { option_copied result ≡ slice_get names.now place }
-{
-    names.get(place)
 }

@@ -3,10 +3,12 @@
 ghost use Rattle.std.specs.Prelude.{◌≡◌, ◌++◌, length, count_by, OnOk, IfOk};
 ghost use Rattle.std.specs.List.{flat_map};
 ghost use Rattle.ds_plain.specs.Explained.{HasEnded, stop_in};
-ghost use Rattle.ds_report.specs.Report.{print_line, trap_text, trap_line, stop_line, stop_lines, how_text, is_trap, summary_line, IsReport};
+ghost use Rattle.ds_report.specs.Report.{print_line, trap_text, trap_line, stop_line, stop_lines, how_text, is_trap};
+ghost use Rattle.ds_report.specs.Report.{summary_line, IsReport};
 
 use crate::prints::{Print, in_order};
-use crate::text::{push, push_address, push_number};
+use crate::text::{push, push_address, push_function, push_number};
+use ds_ast::Name;
 use ds_core::RunRecord;
 use ds_plain::{Stop, Trap, TrapKind};
 use std::alloc::{AllocError, Global};
@@ -34,18 +36,20 @@ fn push_trap(alloc: Global, text: &mut Vec<u8>, kind: TrapKind) -> Result<(), Al
     }
 }
 
-/// Adds the line of a thread that trapped.
+/// Adds the line of a thread that trapped, by the names of all functions.
 fn push_trap_line(
     alloc: Global,
     text: &mut Vec<u8>,
+    names: &[Name],
     thread: usize,
     trap: Trap,
 ) -> Result<(), AllocError>
-    ensures { OnOk result (text.new.items ≡ text.old.items ++ trap_line thread trap) }
+    ensures { OnOk result (text.new.items ≡ text.old.items ++ trap_line names.now thread trap) }
 {
     push(text, b"trap thread ")?;
     push_number(text, thread)?;
-    push(text, b" in @main instruction ")?;
+    push_function(text, names, trap.place.function)?;
+    push(text, b" instruction ")?;
     push_number(text, trap.place.instruction)?;
     push(text, b": ")?;
     push_trap(alloc, text, trap.kind)?;
@@ -57,10 +61,11 @@ fn push_trap_line(
 fn push_stop_line(
     alloc: Global,
     text: &mut Vec<u8>,
+    names: &[Name],
     thread: usize,
     stop: Stop,
 ) -> Result<(), AllocError>
-    ensures { OnOk result (text.new.items ≡ text.old.items ++ stop_line thread stop) }
+    ensures { OnOk result (text.new.items ≡ text.old.items ++ stop_line names.now thread stop) }
 {
     match stop {
         Stop::Idle | Stop::Running | Stop::Returned(_) => Ok(()),
@@ -70,16 +75,21 @@ fn push_stop_line(
             push(text, b"\n")?;
             Ok(())
         }
-        Stop::Trap(trap) => push_trap_line(alloc, text, thread, trap),
+        Stop::Trap(trap) => push_trap_line(alloc, text, names, thread, trap),
     }
 }
 
 /// Adds the stop lines of all threads, in number order.
-fn push_stop_lines(alloc: Global, text: &mut Vec<u8>, stops: &[Stop]) -> Result<(), AllocError>
-    ensures { OnOk result (text.new.items ≡ text.old.items ++ stop_lines 0 stops.now) }
+fn push_stop_lines(
+    alloc: Global,
+    text: &mut Vec<u8>,
+    names: &[Name],
+    stops: &[Stop],
+) -> Result<(), AllocError>
+    ensures { OnOk result (text.new.items ≡ text.old.items ++ stop_lines names.now 0 stops.now) }
 {
     for (thread, stop) in stops.iter().enumerate() {
-        push_stop_line(alloc, text, thread, *stop)?;
+        push_stop_line(alloc, text, names, thread, *stop)?;
     }
     Ok(())
 }
@@ -135,16 +145,18 @@ fn push_summary(
 
 /// The report of a run in which main has ended: what was printed, in order; a line for each thread that
 /// did not come to the end of its function; and the summary.
-pub fn render(alloc: Global, run: &RunRecord) -> Result<Vec<u8>, AllocError>
+///
+/// `names` are those of all functions of the module that was run, declared ones too, in the order of the text.
+pub fn render(alloc: Global, names: &[Name], run: &RunRecord) -> Result<Vec<u8>, AllocError>
     requires stops { length run.now.stops ≡ 16 }
     requires ended { HasEnded (stop_in run.now.stops 0) }
-    ensures { IfOk result (λ text. IsReport run.now.stops run.now.traces text.items) }
+    ensures { IfOk result (λ text. IsReport names.now run.now.stops run.now.traces text.items) }
 {
     let prints = in_order(alloc, run.traces.as_slice())?;
     let stops = run.stops.as_slice();
     let mut text = Vec::new(alloc);
     push_print_lines(&mut text, prints.as_slice())?;
-    push_stop_lines(alloc, &mut text, stops)?;
+    push_stop_lines(alloc, &mut text, names, stops)?;
     push_summary(&mut text, stops[0], prints.len(), trap_count(stops))?;
     Ok(text)
 }

@@ -1,8 +1,11 @@
 //! Pieces of text.
 
-ghost use Rattle.std.specs.Prelude.{◌≡◌, ◌++◌, OnOk};
+ghost use Rattle.std.specs.Prelude.{◌≡◌, ◌++◌, option_copied, slice_get, OnOk};
+ghost use Rattle.ds_report.specs.Function.{function_text};
 ghost use Rattle.ds_report.specs.Report.{address_text};
 
+use ds_ast::Name;
+use ds_print::push_global;
 use itoa::{Buffer, Integer};
 use std::alloc::{AllocError, Global};
 
@@ -28,4 +31,23 @@ pub fn push_address(alloc: Global, text: &mut Vec<u8>, address: u64) -> Result<(
     let digits = format!(in alloc; "{address:x}")?;
     push(text, b"0x")?;
     push(text, digits.as_bytes())
+}
+
+/// The name at a place of a list.
+fn name_at(names: &[Name], place: usize) -> Option<&Name>
+    ensures { option_copied result ≡ slice_get names.now place }
+{
+    names.get(place)
+}
+
+/// Adds in which function something is, by the names of all functions in the order of the text. A number that no
+/// function has is told by nothing.
+pub fn push_function(text: &mut Vec<u8>, names: &[Name], f: u32) -> Result<(), AllocError>
+    ensures { OnOk result (text.new.items ≡ text.old.items ++ function_text names.now f) }
+{
+    push(text, b" in ")?;
+    if let Some(name) = name_at(names, f as usize) {
+        push_global(text, name)?;
+    }
+    Ok(())
 }

@@ -7,8 +7,10 @@ use Rattle.ds_small.specs.declared.SmallValue.TheVariants.{Number, Result}
 use Rattle.ds_small.specs.declared.SmallOp.{SmallOp}
 use Rattle.ds_small.specs.declared.SmallOp.TheVariants.{Load, Store, Print}
 
--- the values that the globals begin with, each modulo 2 ^ 64, in the order of the text, and the instructions of main without its return
+-- the number of main among all functions of the text, declared ones too, from 0; the values that the globals begin
+-- with, each modulo 2 ^ 64, in the order of the text; and the instructions of main without its return
 pub record Module : Type 0 where
+  pub main : ℕ
   pub globals : List ℕ
   pub code : List SmallOp
 
@@ -34,8 +36,8 @@ UsesDefined small i (Load at) = IsAddressAmong (length small.globals) at
 UsesDefined small i (Store value at) = IsValueBefore small.code i value × IsAddressAmong (length small.globals) at
 UsesDefined small i (Print value) = IsValueBefore small.code i value
 
--- The module has at most 4,096 globals, 199,999 instructions beside the return and 65,536 loads, and each instruction uses only
--- what is defined before it.
+-- The module has at most 4,096 globals, 199,999 instructions beside the return and 65,536 loads, and each instruction
+-- uses only what is defined before it.
 pub record IsWellFormed (small : Module) : Type 0 where
   pub few_globals : length small.globals ≤ 4096
   pub few_instructions : length small.code ≤ 199999

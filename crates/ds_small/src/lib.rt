@@ -46,9 +46,10 @@ pub enum SmallOp {
 }
 
 /// A module whose `main` runs loads, stores and prints, one after another, and returns. Contracts see it as the
-/// values that its globals begin with and its instructions.
+/// number of `main`, the values that its globals begin with and its instructions.
 #[derive(Debug, Drop)]
 pub struct Small {
+    main: u32,
     globals: Vec<u64>,
     code: Vec<SmallOp>,
 }
@@ -58,17 +59,29 @@ impl Model for Small {
 
     ghost Value = { Module };
 
-    ghost view = { λ small. record { globals = small.globals.items; code = small.code.items } };
+    ghost view = { λ small. record { main = small.main; globals = small.globals.items; code = small.code.items } };
 }
 
 impl Small {
     /// The module with these globals, whose `main` runs these instructions and returns.
     ///
-    /// A global is the value that it begins with, modulo 2^64.
-    pub fn new(globals: Vec<u64>, code: Vec<SmallOp>) -> Self
-        ensures { result ≡ record { globals = globals.items; code = code.items } }
+    /// `main` is its number among all functions, declared ones too, from 0 in the order of the text. A global is the
+    /// value that it begins with, modulo 2^64.
+    pub fn new(main: u32, globals: Vec<u64>, code: Vec<SmallOp>) -> Self
+        ensures { result ≡ record { main = main; globals = globals.items; code = code.items } }
     {
-        Small { globals, code }
+        Small {
+            main,
+            globals,
+            code,
+        }
+    }
+
+    /// The number of `main` among all functions, declared ones too, from 0 in the order of the text.
+    pub fn main(&self) -> u32
+        ensures { result ≡ self.now.main }
+    {
+        self.main
     }
 
     /// The values that the globals begin with, each modulo 2^64, in the order of the text.

@@ -1,5 +1,7 @@
--- The form of the modules that this stage runs: globals of i64, and one function main of loads, stores and prints in a row.
-use Rattle.std.specs.Prelude.{ℕ, Bool, true, false, ◌&&◌, not, nat_lt, nat_le, nat_eq, if◌then◌else◌, List, [], ◌∷◌, ◌++◌, length, count_by, Option, Some, None, is_some, option_map, option_and_then, codes}
+-- The form of the modules that this stage runs: globals of i64, and one function main of loads, stores and prints in a
+-- row.
+use Rattle.std.specs.Prelude.{ℕ, Bool, true, false, ◌&&◌, not, nat_lt, nat_le, nat_eq, if◌then◌else◌, List, [], ◌∷◌}
+use Rattle.std.specs.Prelude.{◌++◌, length, count_by, Option, Some, None, is_some, option_map, option_and_then, codes}
 use Rattle.std.specs.List.{starts_with}
 use Rattle.std.specs.Str.{bytes_eq}
 use Rattle.ds_ast.specs.declared.name.Name.{Name}
@@ -39,7 +41,8 @@ o >>= f = option_and_then f o
 
 -- NAMES
 
--- the number that each defined name stands for: a global by its place among the globals, a local by that of the load that gives it
+-- the number that each defined name stands for: a global by its place among the globals, a local by that of the load
+-- that gives it
 abbrev pub Names : Type 0
 Names = Name → Option ℕ
 
@@ -63,7 +66,8 @@ is_reserved (name.Text text) = starts_with nat_eq text (codes "ds_")
 
 -- a global may have this name: it is not main, not print_i64 and does not begin with ds_
 abbrev pub may_name_global : Name → Bool
-may_name_global name = not (is_called (codes "main") name) && not (is_called (codes "print_i64") name) && not (is_reserved name)
+may_name_global name =
+    not (is_called (codes "main") name) && not (is_called (codes "print_i64") name) && not (is_reserved name)
 
 -- TYPES AND VALUES
 
@@ -125,9 +129,11 @@ literal (init.Word v) = int_of v
 literal (init.Array' _ parts) = None
 literal (init.Fields' _ parts) = None
 
--- the global may be the next: it is an i64, its name may be a global's and is not defined, and it is one of 4,096 at most
+-- the global may be the next: it is an i64, its name may be a global's and is not defined, and it is one of 4,096 at
+-- most
 abbrev pub may_be_global : Globals → GlobalDef → Bool
-may_be_global gs g = nat_lt (length gs.values) 4096 && is_i64_type g.ty && may_name_global g.name && not (is_some (gs.names g.name))
+may_be_global gs g =
+    nat_lt (length gs.values) 4096 && is_i64_type g.ty && may_name_global g.name && not (is_some (gs.names g.name))
 
 -- the globals with one more
 abbrev pub with_global : Globals → GlobalDef → ℕ → Globals
@@ -160,8 +166,10 @@ printed locals (o ∷ p ∷ os) = None
 
 -- store i64 V, ptr A, or call void @print_i64(i64 V)
 abbrev pub effect_of : Names → Names → Op → Option SmallOp
-effect_of globals locals (op.Store s v at) = if is_i64 s then stored (value_of locals v) (address_of globals at) else None
-effect_of globals locals (op.Call t callee args) = if is_void_type t && is_called (codes "print_i64") callee then printed locals args else None
+effect_of globals locals (op.Store s v at) =
+    if is_i64 s then stored (value_of locals v) (address_of globals at) else None
+effect_of globals locals (op.Call t callee args) =
+    if is_void_type t && is_called (codes "print_i64") callee then printed locals args else None
 effect_of globals locals other = None
 
 -- the instructions so far: the number of each name, and what they do
@@ -189,7 +197,9 @@ op_of globals label locals (Some name) o = if may_name_local label locals name t
 
 -- the instructions with one more, of 199,999 at most
 unfoldable pub code_more : Names → Name → Code → Instr → Option Code
-code_more globals label c i = if nat_lt (length c.ops) 199999 then option_map (with_op c i.result) (op_of globals label c.names i.result i.op) else None
+code_more globals label c i =
+    if nat_lt (length c.ops) 199999 then option_map (with_op c i.result) (op_of globals label c.names i.result i.op)
+    else None
 
 -- ret void
 abbrev pub is_return : Op → Bool
@@ -204,7 +214,8 @@ returned (i ∷ is) c = None
 -- what stands before the return, behind these instructions
 abbrev pub code_of : Names → Name → Code → List Instr → Option Code
 code_of globals label c [] = None
-code_of globals label c (i ∷ is) = if is_return i.op then returned is c else (code_more globals label c i >>= (λ more. code_of globals label more is))
+code_of globals label c (i ∷ is) =
+    if is_return i.op then returned is c else (code_more globals label c i >>= (λ more. code_of globals label more is))
 
 -- FUNCTIONS
 
@@ -223,7 +234,8 @@ no_blocks (b ∷ bs) = false
 
 -- declare void @print_i64(i64)
 abbrev pub is_print : Function → Bool
-is_print f = is_called (codes "print_i64") f.name && is_void_type f.result && are_one_i64 f.params && no_blocks f.blocks
+is_print f =
+    is_called (codes "print_i64") f.name && is_void_type f.result && are_one_i64 f.params && no_blocks f.blocks
 
 abbrev pub only_block : List Block → Option Block
 only_block [] = None
@@ -232,16 +244,26 @@ only_block (b ∷ c ∷ bs) = None
 
 -- the block of define void @main()
 abbrev pub main_block : Function → Option Block
-main_block f = if is_called (codes "main") f.name && is_void_type f.result && are_none f.params then only_block f.blocks else None
+main_block f =
+    if is_called (codes "main") f.name && is_void_type f.result && are_none f.params then only_block f.blocks else None
 
--- the block of main in two functions, of which the other is print_i64
-abbrev pub block_of : Function → Function → Option Block
-block_of f g = if is_print f then main_block g else (if is_print g then main_block f else None)
+-- main: its number among all functions, declared ones too, and its block
+pub record Main : Type 0 where
+  pub number : ℕ
+  pub block : Block
 
-abbrev pub body_of : List Function → Option Block
+-- main, where the function of this number is that and has one block
+abbrev pub main_at : ℕ → Function → Option Main
+main_at n f = option_map (λ b. record { number = n; block = b }) (main_block f)
+
+-- main in two functions, of which the other is print_i64
+abbrev pub main_of : Function → Function → Option Main
+main_of f g = if is_print f then main_at 1 g else (if is_print g then main_at 0 f else None)
+
+abbrev pub body_of : List Function → Option Main
 body_of [] = None
 body_of (f ∷ []) = None
-body_of (f ∷ g ∷ []) = block_of f g
+body_of (f ∷ g ∷ []) = main_of f g
 body_of (f ∷ g ∷ h ∷ fs) = None
 
 -- THE MODULE
@@ -250,18 +272,23 @@ abbrev pub no_structs : List StructDef → Bool
 no_structs [] = true
 no_structs (s ∷ ss) = false
 
--- the small module of these globals and instructions, of which at most 65,536 are loads
-abbrev pub small_by : Globals → Code → Option small.Module
-small_by gs c = if nat_le (count_by is_load c.ops) 65536 then Some (record { globals = gs.values; code = c.ops }) else None
+-- the small module of main's number, these globals and instructions, of which at most 65,536 are loads
+abbrev pub small_by : ℕ → Globals → Code → Option small.Module
+small_by n gs c =
+    if nat_le (count_by is_load c.ops) 65536 then Some (record { main = n; globals = gs.values; code = c.ops })
+    else None
 
--- the small module of these globals and this block
-abbrev pub small_from : Block → Globals → Option small.Module
-small_from b gs = code_of gs.names b.name (record { names = no_names; ops = [] }) b.code >>= small_by gs
+-- the small module of main and these globals
+abbrev pub small_from : Main → Globals → Option small.Module
+small_from main gs =
+    code_of gs.names main.block.name (record { names = no_names; ops = [] }) main.block.code
+    >>= small_by main.number gs
 
-abbrev pub small_with : List GlobalDef → Block → Option small.Module
-small_with globals b = globals_of (record { names = no_names; values = [] }) globals >>= small_from b
+abbrev pub small_with : List GlobalDef → Main → Option small.Module
+small_with globals main = globals_of (record { names = no_names; values = [] }) globals >>= small_from main
 
--- The small module that a module is, where it has this stage's form: no struct types; at most 4,096 globals of i64; and two functions in any
--- order, the declaration of print_i64 and main, with one block of loads, stores and prints and a return behind them.
+-- The small module that a module is, where it has this stage's form: no struct types; at most 4,096 globals of i64;
+-- and two functions in any order, the declaration of print_i64 and main, with one block of loads, stores and prints
+-- and a return behind them.
 unfoldable pub small_of : Module → Option small.Module
 small_of m = if no_structs m.structs then (body_of m.functions >>= small_with m.globals) else None

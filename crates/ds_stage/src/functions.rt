@@ -7,6 +7,15 @@ use crate::instructions::is_void;
 use crate::names::is_called;
 use ds_ast::{Block, Function, Param};
 
+/// `main`: its number among all functions, declared ones too, and its block.
+#[derive(Drop)]
+pub struct Main<'a> {
+    /// Its number, from 0 in the order of the text.
+    pub number: u32,
+    /// Its only block.
+    pub block: &'a Block,
+}
+
 /// Whether these are the parameters of `print_i64`: one `i64`.
 fn are_one_i64(params: &[Param]) -> bool
     ensures { result ≡ form.are_one_i64 params.now }
@@ -51,16 +60,28 @@ fn main_block(function: &Function) -> Option<&Block>
     }
 }
 
-/// The block of `main` in two functions, of which the other is `print_i64`.
-pub fn body_of(functions: &[Function]) -> Option<&Block>
-    ensures { option_map (λ b. b.now) result ≡ form.body_of functions.now }
+/// `main`, where the function of this number is that and has one block.
+fn main_at(number: u32, function: &Function) -> Option<Main<'_>>
+    ensures { option_map (λ main. record { number = main.number; block = main.block.now }) result ≡ form.main_at number
+        function.now }
+{
+    match main_block(function) {
+        Some(block) => Some(Main { number, block }),
+        None => None,
+    }
+}
+
+/// `main` in two functions, of which the other is `print_i64`.
+pub fn body_of(functions: &[Function]) -> Option<Main<'_>>
+    ensures { option_map (λ main. record { number = main.number; block = main.block.now }) result ≡ form.body_of
+        functions.now }
 {
     match functions {
         [first, second] => {
             if is_print(first) {
-                main_block(second)
+                main_at(1, second)
             } else if is_print(second) {
-                main_block(first)
+                main_at(0, first)
             } else {
                 None
             }

@@ -1,7 +1,7 @@
 //! The globals of a small module.
 ghost use Rattle.std.specs.Prelude.{◌≡◌, ◌<◌, [], length, IfOk};
 ghost use Rattle.ds_stage.specs.Form as form;
-ghost use Rattle.ds_stage.specs.Found.{numbers_in, Finds};
+ghost use Rattle.ds_stage.specs.Found.{globals_kept, Finds};
 
 use crate::fault::StageFault;
 use crate::names::{Names, may_name_global};
@@ -63,7 +63,7 @@ fn literal(init: &Init) -> Option<u64>
 
 /// Whether a global may be the next.
 fn may_be_global<'a>(globals: &Globals<'a>, def: &'a GlobalDef) -> bool
-    ensures { result ≡ form.may_be_global (record { names = numbers_in globals.now.names.texts globals.now.names.numbers; values = globals.now.values.items }) def.now }
+    ensures { result ≡ form.may_be_global (globals_kept globals.now) def.now }
 {
     globals.values.len() < MAX_GLOBALS
         && is_i64_type(&def.ty)
@@ -78,8 +78,7 @@ fn with_global<'a>(
     value: u64,
 ) -> Result<Globals<'a>, AllocError>
     requires { length globals.values.items < 4096 }
-    ensures { IfOk result (λ gs. record { names = numbers_in gs.names.texts gs.names.numbers; values = gs.values.items } ≡
-        form.with_global (record { names = numbers_in globals.entry.names.texts globals.entry.names.numbers; values = globals.entry.values.items }) def.now value) }
+    ensures { IfOk result (λ gs. globals_kept gs ≡ form.with_global (globals_kept globals.entry) def.now value) }
 {
     let mut globals = globals;
     let number = globals.values.as_slice().len() as u32;
@@ -91,8 +90,7 @@ fn with_global<'a>(
 /// The globals with one more.
 #[tactic(auto, unfolding(crate::specs::Form::global_more))]
 fn global_more<'a>(globals: Globals<'a>, def: &'a GlobalDef) -> Result<Globals<'a>, StageFault>
-    ensures { Finds (λ gs. record { names = numbers_in gs.names.texts gs.names.numbers; values = gs.values.items }) result
-        (form.global_more (record { names = numbers_in globals.entry.names.texts globals.entry.names.numbers; values = globals.entry.values.items }) def.now) }
+    ensures { Finds globals_kept result (form.global_more (globals_kept globals.entry) def.now) }
 {
     if !may_be_global(&globals, def) {
         return Err(StageFault::OtherForm);
@@ -105,8 +103,7 @@ fn global_more<'a>(globals: Globals<'a>, def: &'a GlobalDef) -> Result<Globals<'
 
 /// The globals of these definitions.
 pub fn all_globals<'a>(alloc: Global, defs: &'a [GlobalDef]) -> Result<Globals<'a>, StageFault>
-    ensures { Finds (λ gs. record { names = numbers_in gs.names.texts gs.names.numbers; values = gs.values.items }) result
-        (form.globals_of (record { names = form.no_names; values = [] }) defs.now) }
+    ensures { Finds globals_kept result (form.globals_of (record { names = form.no_names; values = [] }) defs.now) }
 {
     let mut globals = Globals {
         names: Names::new(alloc),

@@ -1,7 +1,7 @@
 //! The instructions of a small module.
 ghost use Rattle.std.specs.Prelude.{◌≡◌, ◌<◌, Some, None, [], length, IfOk, OnOk};
 ghost use Rattle.ds_stage.specs.Form as form;
-ghost use Rattle.ds_stage.specs.Found.{numbers_in, Finds};
+ghost use Rattle.ds_stage.specs.Found.{named, code_kept, Finds};
 
 use crate::fault::StageFault;
 use crate::globals::is_i64;
@@ -36,7 +36,7 @@ pub fn is_void(ty: &Ty) -> bool
 
 /// The value that an operand is: a number, or a local that is defined.
 fn value_of<'a>(locals: &Names<'a>, value: &'a Value) -> Option<SmallValue>
-    ensures { result ≡ form.value_of (numbers_in locals.now.texts locals.now.numbers) value.now }
+    ensures { result ≡ form.value_of (named locals.now) value.now }
 {
     match value {
         Value::Int(number) => Some(SmallValue::Number(*number)),
@@ -52,7 +52,7 @@ fn value_of<'a>(locals: &Names<'a>, value: &'a Value) -> Option<SmallValue>
 
 /// The address that an operand is: a global that is defined, or `null`.
 fn address_of<'a>(globals: &Names<'a>, value: &'a Value) -> Option<SmallAddress>
-    ensures { result ≡ form.address_of (numbers_in globals.now.texts globals.now.numbers) value.now }
+    ensures { result ≡ form.address_of (named globals.now) value.now }
 {
     match value {
         Value::Null => Some(SmallAddress::Null),
@@ -68,7 +68,7 @@ fn address_of<'a>(globals: &Names<'a>, value: &'a Value) -> Option<SmallAddress>
 
 /// A load of an `i64`.
 fn load_of<'a>(globals: &Names<'a>, op: &'a Op) -> Option<SmallOp>
-    ensures { result ≡ form.load_of (numbers_in globals.now.texts globals.now.numbers) op.now }
+    ensures { result ≡ form.load_of (named globals.now) op.now }
 {
     match op {
         Op::Load { ty, at } => {
@@ -91,8 +91,8 @@ fn stored<'a>(
     value: &'a Value,
     at: &'a Value,
 ) -> Option<SmallOp>
-    ensures { result ≡ form.stored (form.value_of (numbers_in locals.now.texts locals.now.numbers) value.now)
-        (form.address_of (numbers_in globals.now.texts globals.now.numbers) at.now) }
+    ensures { result ≡ form.stored (form.value_of (named locals.now) value.now)
+        (form.address_of (named globals.now) at.now) }
 {
     match value_of(locals, value) {
         None => None,
@@ -105,7 +105,7 @@ fn stored<'a>(
 
 /// A print of the only argument, an `i64`.
 fn printed<'a>(locals: &Names<'a>, args: &'a [Operand]) -> Option<SmallOp>
-    ensures { result ≡ form.printed (numbers_in locals.now.texts locals.now.numbers) args.now }
+    ensures { result ≡ form.printed (named locals.now) args.now }
 {
     match args {
         [operand] => {
@@ -123,7 +123,7 @@ fn printed<'a>(locals: &Names<'a>, args: &'a [Operand]) -> Option<SmallOp>
 
 /// A store, or a print.
 fn effect_of<'a>(globals: &Names<'a>, locals: &Names<'a>, op: &'a Op) -> Option<SmallOp>
-    ensures { result ≡ form.effect_of (numbers_in globals.now.texts globals.now.numbers) (numbers_in locals.now.texts locals.now.numbers) op.now }
+    ensures { result ≡ form.effect_of (named globals.now) (named locals.now) op.now }
 {
     match op {
         Op::Store { ty, value, at } => {
@@ -150,7 +150,7 @@ fn effect_of<'a>(globals: &Names<'a>, locals: &Names<'a>, op: &'a Op) -> Option<
 
 /// Whether a load may give this name.
 fn may_name_local<'a>(label: &Name, names: &Names<'a>, name: &'a Name) -> bool
-    ensures { result ≡ form.may_name_local label.now (numbers_in names.now.texts names.now.numbers) name.now }
+    ensures { result ≡ form.may_name_local label.now (named names.now) name.now }
 {
     !is_name(label, name) && names.get(name).is_none()
 }
@@ -173,7 +173,7 @@ fn op_of<'a>(
     result_name: &'a Option<Name>,
     op: &'a Op,
 ) -> Option<SmallOp>
-    ensures { result ≡ form.op_of (numbers_in globals.now.texts globals.now.numbers) label.now (numbers_in locals.now.texts locals.now.numbers) result_name.now op.now }
+    ensures { result ≡ form.op_of (named globals.now) label.now (named locals.now) result_name.now op.now }
 {
     match result_name {
         None => effect_of(globals, locals, op),
@@ -189,7 +189,7 @@ fn op_of<'a>(
 
 /// Lets a name, where there is one, stand for a number.
 fn define<'a>(names: &mut Names<'a>, name: &'a Option<Name>, number: u32) -> Result<(), AllocError>
-    ensures { OnOk result (numbers_in names.new.texts names.new.numbers ≡ form.defined (numbers_in names.old.texts names.old.numbers) name.now number) }
+    ensures { OnOk result (named names.new ≡ form.defined (named names.old) name.now number) }
 {
     match name {
         Some(name) => names.define(name, number),
@@ -200,8 +200,7 @@ fn define<'a>(names: &mut Names<'a>, name: &'a Option<Name>, number: u32) -> Res
 /// These instructions, and one that gives this name, where it gives one.
 fn with_op<'a>(code: Code<'a>, name: &'a Option<Name>, op: SmallOp) -> Result<Code<'a>, AllocError>
     requires { length code.ops.items < 199999 }
-    ensures { IfOk result (λ more. record { names = numbers_in more.names.texts more.names.numbers; ops = more.ops.items } ≡
-        form.with_op (record { names = numbers_in code.entry.names.texts code.entry.names.numbers; ops = code.entry.ops.items }) name.now op) }
+    ensures { IfOk result (λ more. code_kept more ≡ form.with_op (code_kept code.entry) name.now op) }
 {
     let mut code = code;
     let number = code.ops.as_slice().len() as u32;
@@ -218,9 +217,7 @@ fn code_more<'a>(
     code: Code<'a>,
     instr: &'a Instr,
 ) -> Result<Code<'a>, StageFault>
-    ensures { Finds (λ c. record { names = numbers_in c.names.texts c.names.numbers; ops = c.ops.items }) result
-        (form.code_more (numbers_in globals.now.texts globals.now.numbers) label.now
-        (record { names = numbers_in code.entry.names.texts code.entry.names.numbers; ops = code.entry.ops.items }) instr.now) }
+    ensures { Finds code_kept result (form.code_more (named globals.now) label.now (code_kept code.entry) instr.now) }
 {
     if code.ops.as_slice().len() >= MAX_INSTRUCTIONS {
         return Err(StageFault::OtherForm);
@@ -233,8 +230,7 @@ fn code_more<'a>(
 
 /// These instructions, where nothing stands behind the return.
 fn returned<'a>(code: Code<'a>, rest: &[Instr]) -> Result<Code<'a>, StageFault>
-    ensures { Finds (λ c. record { names = numbers_in c.names.texts c.names.numbers; ops = c.ops.items }) result
-        (form.returned rest.now (record { names = numbers_in code.entry.names.texts code.entry.names.numbers; ops = code.entry.ops.items })) }
+    ensures { Finds code_kept result (form.returned rest.now (code_kept code.entry)) }
 {
     match rest {
         [] => Ok(code),
@@ -248,8 +244,8 @@ pub fn code_of<'a>(
     globals: &Names<'a>,
     block: &'a Block,
 ) -> Result<Code<'a>, StageFault>
-    ensures { Finds (λ c. record { names = numbers_in c.names.texts c.names.numbers; ops = c.ops.items }) result
-        (form.code_of (numbers_in globals.now.texts globals.now.numbers) block.now.name (record { names = form.no_names; ops = [] }) block.now.code) }
+    ensures { Finds code_kept result (form.code_of (named globals.now) block.now.name
+        (record { names = form.no_names; ops = [] }) block.now.code) }
 {
     let instrs = block.code.as_slice();
     let mut code = Code {

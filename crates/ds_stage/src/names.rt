@@ -3,7 +3,7 @@ ghost use Rattle.std.specs.Prelude.{◌≡◌, codes, OnOk};
 ghost use Rattle.ds_ast.specs.Bounds as bounds;
 ghost use Rattle.ds_stage.specs.Form as form;
 ghost use Rattle.ds_stage.specs.Form.{no_names, with_name};
-ghost use Rattle.ds_stage.specs.Found.{numbers_in};
+ghost use Rattle.ds_stage.specs.Found.{named};
 
 use ds_ast::Name;
 use std::alloc::{AllocError, Global};
@@ -19,7 +19,7 @@ pub struct Names<'a> {
 impl<'a> Names<'a> {
     /// No name is defined.
     pub fn new(alloc: Global) -> Names<'a>
-        ensures { numbers_in result.texts result.numbers ≡ no_names }
+        ensures { named result ≡ no_names }
     {
         Names {
             texts: BTreeMap::new(alloc),
@@ -29,7 +29,7 @@ impl<'a> Names<'a> {
 
     /// The number that a name stands for, if it is defined.
     pub fn get(&self, name: &'a Name) -> Option<u32>
-        ensures { result ≡ numbers_in self.now.texts self.now.numbers name.now }
+        ensures { result ≡ named self.now name.now }
     {
         match name {
             Name::Number(number) => self.numbers.get(number).copied(),
@@ -39,7 +39,7 @@ impl<'a> Names<'a> {
 
     /// Lets a name stand for a number.
     pub fn define(&mut self, name: &'a Name, number: u32) -> Result<(), AllocError>
-        ensures { OnOk result (numbers_in self.new.texts self.new.numbers ≡ with_name (numbers_in self.old.texts self.old.numbers) name.now number) }
+        ensures { OnOk result (named self.new ≡ with_name (named self.old) name.now number) }
     {
         match name {
             Name::Number(n) => {

@@ -3,13 +3,13 @@ ghost use Rattle.std.specs.Prelude.{◌≡◌, ◌⊎◌, None, Some, count_by, 
 ghost use Rattle.ds_small.specs.Module.{is_load, IsWellFormed};
 ghost use Rattle.ds_stage.specs.Form as form;
 ghost use Rattle.ds_stage.specs.Form.{small_of};
-ghost use Rattle.ds_stage.specs.Found.{numbers_in, Finds};
+ghost use Rattle.ds_stage.specs.Found.{Finds};
 
 use crate::fault::StageFault;
-use crate::functions::body_of;
+use crate::functions::{Main, body_of};
 use crate::globals::all_globals;
 use crate::instructions::code_of;
-use ds_ast::{Block, GlobalDef, Module};
+use ds_ast::{GlobalDef, Module};
 use ds_small::{Small, SmallOp};
 use std::alloc::Global;
 
@@ -30,23 +30,25 @@ fn loads(ops: &[SmallOp]) -> usize
     ops.iter().filter(|op| is_load(**op)).count()
 }
 
-/// The small module of these globals and this block.
-fn small_with(alloc: Global, defs: &[GlobalDef], block: &Block) -> Result<Small, StageFault>
-    ensures { Finds (λ small. small) result (form.small_with defs.now block.now) }
+/// The small module of these globals and this `main`.
+fn small_with(alloc: Global, defs: &[GlobalDef], main: Main<'_>) -> Result<Small, StageFault>
+    ensures { Finds (λ small. small) result
+        (form.small_with defs.now (record { number = main.entry.number; block = main.entry.block.now })) }
 {
     let globals = all_globals(alloc, defs)?;
-    let code = code_of(alloc, &globals.names, block)?;
+    let code = code_of(alloc, &globals.names, main.block)?;
     if loads(code.ops.as_slice()) > MAX_LOADS {
         return Err(StageFault::OtherForm);
     }
-    Ok(Small::new(globals.values, code.ops))
+    Ok(Small::new(main.number, globals.values, code.ops))
 }
 
 /// The small module that a module is.
 ///
 /// # Errors
 ///
-/// `OtherForm` exactly where the module has not the form that this stage runs; `Memory` where there is not enough memory.
+/// `OtherForm` exactly where the module has not the form that this stage runs; `Memory` where there is not enough
+/// memory.
 #[tactic(auto, unfolding(crate::specs::Form::small_of))]
 pub fn small_program(alloc: Global, module: &Module) -> Result<Small, StageFault>
     ensures small { IfOk result (λ small. small_of «module».now ≡ Some small) }
@@ -58,6 +60,6 @@ pub fn small_program(alloc: Global, module: &Module) -> Result<Small, StageFault
     }
     match body_of(module.functions.as_slice()) {
         None => Err(StageFault::OtherForm),
-        Some(block) => small_with(alloc, module.globals.as_slice(), block),
+        Some(main) => small_with(alloc, module.globals.as_slice(), main),
     }
 }

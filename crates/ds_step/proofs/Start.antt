@@ -18,6 +18,7 @@ pieces-first_words lim image w1 w2 w3 w4 first len f n e1 e2 e3 e4 =
     cc
 
 -- the table has as many words as its parts together
-pub length-first_words : (lim : Bounds) (image : List ℕ) → length image ≤ 4096 → length (first_words lim image) ≡ words lim
+pub length-first_words : (lim : Bounds) (image : List ℕ) → length image ≤ 4096
+    → length (first_words lim image) ≡ words lim
 unfolding first_words
 length-first_words lim image h = simp (length-append, length-replicate, length-set) (omega arith)

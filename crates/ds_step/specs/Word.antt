@@ -1,5 +1,6 @@
 -- What one operation does to one word.
-use Rattle.std.specs.Prelude.{ℕ, ◌+◌, ◌-◌, ◌%◌, ◌^◌, ◌==◌, max, min, bit_and, bit_or, bit_xor, if◌then◌else◌, List, slice_index, slice_set}
+use Rattle.std.specs.Prelude.{ℕ, ◌+◌, ◌-◌, ◌%◌, ◌^◌, ◌==◌, max, min, bit_and, bit_or, bit_xor, if◌then◌else◌, List}
+use Rattle.std.specs.Prelude.{slice_index, slice_set}
 use Rattle.ds_step.specs.declared.OpKind.{OpKind}
 use Rattle.ds_step.specs.declared.OpKind.TheVariants.{Load, Store, Swap, Add, Sub, And, Or, Xor, Max, Min, Cas}
 use Rattle.ds_step.specs.declared.WordOp.{WordOp}

@@ -94,90 +94,15 @@ mod tests {
     use crate::OpKind;
     use std::test::Fail;
 
-    /// Makes an operation on word 5 and answers what it answered and what the word holds then.
-    fn made(words: &mut VecWords, kind: OpKind, a: u64, b: u64) -> (u64, u64)
-        requires { 6 ≤ length words.old }
-        ensures { length words.new ≡ length words.old }
-    {
-        let answer = words.apply(WordOp {
-            kind,
-            word: 5,
-            a,
-            b,
-        });
-        let word = words.apply(WordOp {
-            kind: OpKind::Load,
-            word: 5,
-            a: 0,
-            b: 0,
-        });
-        (answer, word)
-    }
-
-    /// What a word of the default limits holds; `None` where there is no such word.
-    fn held_at(words: &mut VecWords, word: u32) -> Option<u64>
-        requires { 3412608 ≤ length words.old }
-        ensures { words.new ≡ words.old }
-    {
-        if word >= 3_412_608 {
-            return None;
-        }
-        let op = WordOp {
-            kind: OpKind::Load,
-            word,
-            a: 0,
-            b: 0,
-        };
-        Some(words.apply(op))
-    }
-
     #[test]
-    fn each_kind_on_a_word(rt: HostRuntime) -> Result<(), Fail> {
+    fn first_words_and_an_operation(rt: HostRuntime) -> Result<(), Fail> {
         let limits = Limits::default_limits();
-        let mut words = VecWords::new(rt.alloc(), &limits, &[7, 8])?;
-        for (kind, a, b, answer, word) in [
-            (OpKind::Store, 12, 0, 0, 12),
-            (OpKind::Load, 0, 0, 12, 12),
-            (OpKind::Swap, 10, 0, 12, 10),
-            (OpKind::Add, u64::MAX, 0, 10, 9),
-            (OpKind::Sub, 10, 0, 9, u64::MAX),
-            (OpKind::And, 12, 0, u64::MAX, 12),
-            (OpKind::Or, 3, 0, 12, 15),
-            (OpKind::Xor, 5, 0, 15, 10),
-            (OpKind::Max, 7, 0, 10, 10),
-            (OpKind::Max, 20, 0, 10, 20),
-            (OpKind::Min, 30, 0, 20, 20),
-            (OpKind::Min, 3, 0, 20, 3),
-            (OpKind::Cas, 4, 9, 3, 3),
-            (OpKind::Cas, 3, 9, 3, 9),
-        ] {
-            let (answered, held) = made(&mut words, kind, a, b);
-            assert_eq!(rt; answered, answer, "{kind:?} with {a} and {b}");
-            assert_eq!(rt; held, word, "{kind:?} with {a} and {b}");
-        }
-        Ok(())
-    }
-
-    #[test]
-    fn words_at_the_start(rt: HostRuntime) -> Result<(), Fail> {
-        let limits = Limits::default_limits();
-        let mut words = VecWords::new(rt.alloc(), &limits, &[7, 8])?;
-        for (word, want) in [
-            (0, 0),
-            (1, 1),
-            (2, 0),
-            (16, 1),
-            (17, 0),
-            (383, 0),
-            (384, 0),
-            (3_211_903, 0),
-            (3_211_904, 7),
-            (3_211_905, 8),
-            (3_211_906, 0),
-            (3_412_607, 0),
-        ] {
-            assert_eq!(rt; held_at(&mut words, word), Some(want), "at {word}");
-        }
+        let mut words = VecWords::new(rt.alloc(), &limits, &[7])?;
+        let kind = OpKind::Cas;
+        let word = 3_211_904;
+        let (a, b) = (7, 9);
+        assert_eq!(rt; words.apply(WordOp { kind, word, a, b }), 7);
+        assert_eq!(rt; words.apply(WordOp { kind, word, a, b }), 9);
         Ok(())
     }
 }

@@ -9,7 +9,8 @@ instruction_count-count-requires c =
     let fits : c.loop-f.count + length (instructions_of c.f-item.result) ≤ 200000 =
     next_fits instructions_of c.args.module.now.functions c.loop-f.f-index c.f-item.result c.loop-f.count 200000
     (subst (λ fs. c.loop-f.f-index < length fs) there c.loop-f-test.true)
-    (c.f-item.is ∙ ap (λ fs. slice_index_or fs c.loop-f.f-index c.f-item.result) there) c.loop-f.invariant c.requires in
+    (c.f-item.is ∙ ap (λ fs. slice_index_or fs c.loop-f.f-index c.f-item.result) there) c.loop-f.invariant
+    c.requires in
     omega (arith, fits)
 
 pub overflow_add-count : goal.overflow_add-count
@@ -18,5 +19,6 @@ overflow_add-count c =
     let fits : c.loop-f.count + length (instructions_of c.f-item.result) ≤ 200000 =
     next_fits instructions_of c.args.module.now.functions c.loop-f.f-index c.f-item.result c.loop-f.count 200000
     (subst (λ fs. c.loop-f.f-index < length fs) there c.loop-f-test.true)
-    (c.f-item.is ∙ ap (λ fs. slice_index_or fs c.loop-f.f-index c.f-item.result) there) c.loop-f.invariant c.requires in
+    (c.f-item.is ∙ ap (λ fs. slice_index_or fs c.loop-f.f-index c.f-item.result) there) c.loop-f.invariant
+    c.requires in
     omega (arith, fits, c.instruction_count-count.ensures)

@@ -27,7 +27,8 @@ pub returns-clause-refused : goal.returns-clause-refused
 returns-clause-refused g c = clauses.refused _ c.answer.ensures
 
 pub returns-clause-refusal_is_told : goal.returns-clause-refusal_is_told
-returns-clause-refusal_is_told g c = clauses.refusal_is_told _ c.accepted_inputs_are_not_refused.ensures c.answer.ensures
+returns-clause-refusal_is_told g c =
+    clauses.refusal_is_told _ c.accepted_inputs_are_not_refused.ensures c.answer.ensures
 
 pub returns-clause-fault_line : goal.returns-clause-fault_line
 returns-clause-fault_line g c = clauses.fault_line _ c.answer.ensures

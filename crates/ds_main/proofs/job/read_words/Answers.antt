@@ -10,10 +10,12 @@ returns-then-is_only_word-clause-usage c =
 
 pub returns-then-is_only_word-2-clause-usage : goal.returns-then-is_only_word-2-clause-usage
 returns-then-is_only_word-2-clause-usage c =
-    let words : texts c.args.words.now ≡ codes "check" ∷ [] = c.is_only_word-else-is_only_word.ensures.0 c.if-is_only_word-2.true in
+    let words : texts c.args.words.now ≡ codes "check" ∷ [] =
+    c.is_only_word-else-is_only_word.ensures.0 c.if-is_only_word-2.true in
     ((λ e. absurd (cc e)), (λ no. absurd (no Check words)))
 
 pub returns-then-is_only_word-3-clause-usage : goal.returns-then-is_only_word-3-clause-usage
 returns-then-is_only_word-3-clause-usage c =
-    let words : texts c.args.words.now ≡ codes "instrument" ∷ [] = c.is_only_word-else-is_only_word-2.ensures.0 c.if-is_only_word-3.true in
+    let words : texts c.args.words.now ≡ codes "instrument" ∷ [] =
+    c.is_only_word-else-is_only_word-2.ensures.0 c.if-is_only_word-3.true in
     ((λ e. absurd (cc e)), (λ no. absurd (no Instrument words)))

@@ -7,5 +7,9 @@ pub returns-then-address-lt-HEAP_START-clause-mapped :
 returns-then-address-lt-HEAP_START-clause-mapped c =
     let inside = c.location_among-then-address-lt-HEAP_START.ensures.inside in (
       λ some. let both = inside.0 some in IsMapped-stacks c.args.limits.now c.args.address both.0 both.1,
-      λ mapped. inside.1 (omega arith, lt-end-of-IsMapped c.args.limits.now c.args.address mapped (omega arith) (omega arith)),
+      λ mapped. inside.1 (
+        omega arith,
+        lt-end-of-IsMapped c.args.limits.now c.args.address mapped (omega arith)
+            (omega arith),
+      ),
     )

@@ -2,10 +2,13 @@
 use Rattle.std.proofs.Common.{◌≡◌, drop, []}
 use Rattle.ds_stage.specs.Form as form
 use Rattle.ds_stage.specs.Form.{no_names}
-use Rattle.ds_stage.specs.Found.{numbers_in}
+use Rattle.ds_stage.specs.Found.{named, code_kept}
 use Rattle.ds_stage.proofs.instructions.code_of.Given as goal
 
 abbrev pub invariant-loop-i : goal.invariant-loop-i
 invariant-loop-i l =
-    form.code_of (numbers_in l.fn.globals.texts l.fn.globals.numbers) l.fn.block.name (record { names = numbers_in l.code.names.texts l.code.names.numbers; ops = l.code.ops.items }) (drop l.i l.fn.block.code)
-    ≡ form.code_of (numbers_in l.fn.globals.texts l.fn.globals.numbers) l.fn.block.name (record { names = no_names; ops = [] }) l.fn.block.code
+    form.code_of (named l.fn.globals) l.fn.block.name
+    (code_kept l.code)
+    (drop l.i l.fn.block.code)
+    ≡ form.code_of (named l.fn.globals) l.fn.block.name
+    (record { names = no_names; ops = [] }) l.fn.block.code

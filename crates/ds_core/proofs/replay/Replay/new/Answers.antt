@@ -6,5 +6,7 @@ use Rattle.ds_core.proofs.replay.Replay.new.Goals as goal
 
 pub returns-clause-stands : goal.returns-clause-stands
 returns-clause-stands c =
-    stands_at_start c.nothing_stands.ensures default_limits c.args.image.now _ _ _ (c.in_ok-new.ensures.first ∙ ap (λ (lim : Bounds). first_words lim c.args.image.now) c.default_limits-limits.ensures)
+    stands_at_start c.nothing_stands.ensures default_limits c.args.image.now _ _ _
+    (c.in_ok-new.ensures.first ∙ ap (λ (lim : Bounds). first_words lim c.args.image.now)
+    c.default_limits-limits.ensures)
     c.in_ok-of_threads.ensures c.new-2.ensures

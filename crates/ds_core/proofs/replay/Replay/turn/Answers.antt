@@ -14,8 +14,10 @@ returns-clause-stands c =
     stands_further c.one_step_more.ensures lim t c.args.position words _ traces _ c.args.self.now.order _
     (record {
       words_are = c.apply-old.ensures.change ∙ ap (λ (op : WordOp). words_after words op) c.op_of-op.ensures.op;
-      traces_are = rw c.from.ensures at c.in_ok-push.ensures.ok ∙ ap (λ (s : Step). slice_set traces t (slice_index_or traces t [] ++ s ∷ []))
-          (step_made lim words c.op_of-op.result c.apply-old.result t c.args.position c.step_of.result c.op_of-op.ensures.op c.apply-old.ensures.answer
+      traces_are = rw c.from.ensures at c.in_ok-push.ensures.ok
+          ∙ ap (λ (s : Step). slice_set traces t (slice_index_or traces t [] ++ s ∷ []))
+          (step_made lim words c.op_of-op.result c.apply-old.result t c.args.position c.step_of.result
+          c.op_of-op.ensures.op c.apply-old.ensures.answer
           c.step_of.ensures.op c.step_of.ensures.old c.step_of.ensures.row c.step_of.ensures.event);
       order_is = c.in_ok-push-2.ensures.ok;
     })
