@@ -17,3 +17,4 @@ pub mod Numbered
 pub mod FunctionFaults
 pub mod FunctionsInOrder
 pub mod Steps
+pub mod FirstTold
