@@ -8,8 +8,7 @@ use Rattle.ds_ast.specs.declared.instr.Instr.{Instr}
 use Rattle.ds_ast.specs.declared.module.Function.{Function}
 use Rattle.ds_ast.specs.declared.module.Block.{Block}
 use Rattle.ds_shape.specs.Flow.{targets_of}
-use Rattle.ds_shape.specs.Accepted.{IsTarget}
-use Rattle.ds_shape.specs.Placed.{Placed, placed_of, BreaksFirst, KeepsTargets}
+use Rattle.ds_shape.specs.Placed.{Placed, placed_of, BreaksFirst, KeepsTargets, IsTarget}
 use Rattle.ds_scope.specs.Scope.{Means}
 use Rattle.ds_scope.specs.declared.meaning.Meaning.TheVariants.{Label}
 use Rattle.ds_blocks.specs.declared.sites.Site.{Site}

@@ -20,7 +20,7 @@ use Rattle.ds_ast.specs.declared.module.Block.{Block}
 use Rattle.ds_graph.specs.Graph.{Edges, HasEdge}
 use Rattle.ds_shape.specs.Types.{Stands}
 use Rattle.ds_shape.specs.Flow.{IsEdge, arms_of}
-use Rattle.ds_shape.specs.Accepted.{IsPhi, IsGoodPhi}
+use Rattle.ds_shape.specs.Placed.{IsPhi, IsGoodPhi}
 use Rattle.ds_scope.specs.Scope.{Means}
 use Rattle.ds_scope.specs.declared.meaning.Meaning.TheVariants.{Label}
 use Rattle.ds_blocks.specs.Predecessors.{ArePredecessorsOf}

@@ -1,8 +1,7 @@
 //! Labels that may not be branched to.
 ghost use Rattle.std.specs.Prelude.{◌≡◌, ◌<◌, ◌↔◌, IsTrue, IfSome, IfNone, All, length, slice_index_or};
-ghost use Rattle.ds_shape.specs.Accepted.{IsTarget};
 ghost use Rattle.ds_shape.specs.Flow.{targets_of};
-ghost use Rattle.ds_shape.specs.Placed.{Placed as placed, placed_of, BreaksFirst, KeepsTargets};
+ghost use Rattle.ds_shape.specs.Placed.{Placed as placed, placed_of, BreaksFirst, KeepsTargets, IsTarget};
 
 use crate::sites::Sites;
 use crate::targets::{target, target_count};

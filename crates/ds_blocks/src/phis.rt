@@ -2,7 +2,7 @@
 ghost use Rattle.std.specs.Prelude.{◌≡◌, ◌<◌, ◌^◌, ◌↔◌, List, [], IsTrue, Some, All, length, slice_get, IfOk};
 ghost use Rattle.ds_ast.specs.declared.instr.Instr.{Instr as instr};
 ghost use Rattle.ds_ast.specs.declared.module.Block.{Block as one};
-ghost use Rattle.ds_shape.specs.Accepted.{IsPhi, IsGoodPhi};
+ghost use Rattle.ds_shape.specs.Placed.{IsPhi, IsGoodPhi};
 ghost use Rattle.ds_shape.specs.Flow.{arms_of};
 ghost use Rattle.ds_blocks.specs.Phis.{Keeps, AreKept, HasEach};
 ghost use Rattle.ds_blocks.specs.Predecessors.{ArePredecessorsOf};

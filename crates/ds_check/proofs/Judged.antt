@@ -14,8 +14,7 @@ use Rattle.ds_ast.specs.declared.instr.Op.{Op}
 use Rattle.std.specs.declared.alloc.AllocError.{AllocError}
 use Rattle.ds_shape.specs.Flow.{arms_of}
 use Rattle.ds_shape.specs.Types.{IsTypedOp}
-use Rattle.ds_shape.specs.Accepted.{IsPhi, IsGoodPhi, IsDefined, operands_of, GivesRegister}
-use Rattle.ds_shape.specs.Placed.{Placed, KeepsDefined, KeepsTypes, KeepsPhi}
+use Rattle.ds_shape.specs.Placed.{Placed, KeepsDefined, KeepsTypes, KeepsPhi, IsPhi, IsGoodPhi, IsDefined, values_of, GivesRegister}
 use Rattle.ds_blocks.specs.declared.sites.Site.{Site}
 use Rattle.ds_blocks.specs.Sites.{IsSite}
 use Rattle.ds_check.specs.Front.{IsFront, AreFronts}
@@ -76,15 +75,15 @@ module _ (m : Module) (f : Function) (o : Op) (number : ℕ) where
   types_of : (s : Site) (p : Placed) → IsSite f number s p → o ≡ p.instr.op → Typed → KeepsTypes m f p
   types_of s p site same typed = (subst (IsTypedOp m f) same typed.0, λ first. typed.1 (sym site.numbered ∙ first))
 
-  defined_of : (p : Placed) → o ≡ p.instr.op → All (IsDefined m f) (operands_of o) → KeepsDefined m f p
-  defined_of p same all = subst (λ q. All (IsDefined m f) (operands_of q)) same all
+  defined_of : (p : Placed) → o ≡ p.instr.op → All (IsDefined m f) (values_of o) → KeepsDefined m f p
+  defined_of p same all = subst (λ q. All (IsDefined m f) (values_of q)) same all
 
   -- no rule is broken
-  pub none_broken : (s : Site) → All (IsDefined m f) (operands_of o) → Typed → ((n : ℕ) (p : Placed) → IsSite f n s p → o ≡ p.instr.op → KeepsPhi f p)
+  pub none_broken : (s : Site) → All (IsDefined m f) (values_of o) → Typed → ((n : ℕ) (p : Placed) → IsSite f n s p → o ≡ p.instr.op → KeepsPhi f p)
       → (p : Placed) → IsSite f number s p → o ≡ p.instr.op → IsBroken m f p None
   none_broken s all typed phi p site same = (defined_of p same all, types_of s p site same typed, phi number p site same)
 
   -- only that of phis is
-  pub phi_broken : (s : Site) → All (IsDefined m f) (operands_of o) → Typed → ((n : ℕ) (p : Placed) → IsSite f n s p → o ≡ p.instr.op → KeepsPhi f p → ⊥)
+  pub phi_broken : (s : Site) → All (IsDefined m f) (values_of o) → Typed → ((n : ℕ) (p : Placed) → IsSite f n s p → o ≡ p.instr.op → KeepsPhi f p → ⊥)
       → (p : Placed) → IsSite f number s p → o ≡ p.instr.op → IsBroken m f p (Some GoodPhi)
   phi_broken s all typed phi p site same = (defined_of p same all, types_of s p site same typed, phi number p site same)

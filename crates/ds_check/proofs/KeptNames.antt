@@ -5,7 +5,8 @@ use Rattle.ds_ast.specs.declared.module.Module.{Module}
 use Rattle.ds_ast.specs.declared.module.GlobalDef.{GlobalDef}
 use Rattle.ds_ast.specs.declared.module.Function.{Function}
 use Rattle.ds_shape.specs.Written.{IsFirstBreach}
-use Rattle.ds_check.specs.Fault.{IsFreeGlobal, IsGoodExternal, IsFirstExternal}
+use Rattle.ds_check.specs.Fault.{IsFirstExternal}
+use Rattle.ds_shape.specs.Accepted.{IsFreeGlobal, IsGoodExternal}
 
 pub among_globals : (m : Module) (gs : List GlobalDef) (g : GlobalDef) → gs ≡ m.globals → IsFirstBreach IsFreeGlobal gs g → IsFirstExternal m g.name
 among_globals m gs g same first = inl (g, subst (λ gs. IsFirstBreach IsFreeGlobal gs g) same first, refl)

@@ -7,10 +7,10 @@ use Rattle.ds_ast.specs.declared.module.Function.{Function}
 use Rattle.ds_names.specs.Names.{Among, AreDistinct, IsFirstTwice}
 use Rattle.ds_shape.specs.Written.{IsFirstBreach}
 use Rattle.ds_shape.specs.Placed.{Placed, placed_of, BreaksFirst, KeepsTargets, KeepsDefined, KeepsTypes, KeepsPhi, KeepsAssigned}
-use Rattle.ds_shape.specs.Accepted.{global_names, local_names, IsGoodFunction}
+use Rattle.ds_shape.specs.Accepted.{global_names, local_names, IsGoodFunction, IsFreeGlobal, IsGoodExternal, IsGood}
 use Rattle.ds_check.specs.declared.fault.TypeFault.{TypeFault}
 use Rattle.ds_check.specs.declared.fault.TypeFault.TheVariants.{Twice, TooMany, BadExternal, TwiceLocal, BadBlock, Undefined, WrongType, BadPhi, NotDominating, NoMain, Memory}
-use Rattle.ds_check.specs.Fault.{HasFew, count_kinds, IsFreeGlobal, IsGoodExternal, KeepsAll, BreaksNext, HasFunctionFault, HasFirstFunctionFault, IsFirstExternal, WrongGlobal, HasExternals, HasGlobals, IsGood}
+use Rattle.ds_check.specs.Fault.{HasFew, count_kinds, KeepsAll, BreaksNext, HasFunctionFault, HasFirstFunctionFault, IsFirstExternal, WrongGlobal, HasExternals, HasGlobals}
 use Rattle.ds_check.specs.Laws.{AcceptedAreNotRefused}
 use Rattle.ds_check.proofs.Breach.{each_standing}
 use Rattle.ds_check.proofs.GoodFunction.{good_labels, good_keeps, good_paths}
@@ -73,15 +73,15 @@ never_wrong : (m : Module) (f i : ℕ) → HasGlobals m → WrongGlobal m f i �
 never_wrong m f i is wrong = wrong.1 is.initial
 
 pub never_refused : AcceptedAreNotRefused
-never_refused m (Twice name) is has = never_twice (global_names m) name has is.no_twice
+never_refused m (Twice name) is has = never_twice (global_names m) name has is.well_formed.no_twice
 never_refused m (TooMany what limit) is has = never_breaks (HasFew m) count_kinds what has.1 (accepted_counts m is).few
 never_refused m (BadExternal name) is has = never_external m name (accepted_externals m is) has.1
 never_refused m (WrongType f i) is (inl wrong) = never_wrong m f i (accepted_globals m is) wrong
-never_refused m (WrongType f i) is (inr has) = none_has m (WrongType f i) is.functions has.1
-never_refused m (TwiceLocal f name) is has = none_has m (TwiceLocal f name) is.functions has.1
-never_refused m (BadBlock f i) is has = none_has m (BadBlock f i) is.functions has.1
-never_refused m (Undefined f i) is has = none_has m (Undefined f i) is.functions has.1
-never_refused m (BadPhi f i) is has = none_has m (BadPhi f i) is.functions has.1
-never_refused m (NotDominating f i) is has = none_has m (NotDominating f i) is.functions has.1
-never_refused m NoMain is has = has.2 is.main
+never_refused m (WrongType f i) is (inr has) = none_has m (WrongType f i) is.well_formed.functions has.1
+never_refused m (TwiceLocal f name) is has = none_has m (TwiceLocal f name) is.well_formed.functions has.1
+never_refused m (BadBlock f i) is has = none_has m (BadBlock f i) is.well_formed.functions has.1
+never_refused m (Undefined f i) is has = none_has m (Undefined f i) is.well_formed.functions has.1
+never_refused m (BadPhi f i) is has = none_has m (BadPhi f i) is.well_formed.functions has.1
+never_refused m (NotDominating f i) is has = none_has m (NotDominating f i) is.well_formed.functions has.1
+never_refused m NoMain is has = has.2 is.well_formed.main
 never_refused m Memory is has = has

@@ -9,16 +9,19 @@ use Rattle.ds_ast.specs.declared.module.Function.{Function}
 use Rattle.ds_names.specs.Names.{Among, AreDistinct, IsFirstTwice}
 use Rattle.ds_shape.specs.Written.{IsFirstBreach}
 use Rattle.ds_shape.specs.Placed.{Placed, placed_of, KeepsTargets, KeepsDefined, KeepsTypes, KeepsAssigned}
-use Rattle.ds_shape.specs.Accepted.{global_names, local_names}
+use Rattle.ds_shape.specs.Accepted.{global_names, local_names, IsFreeGlobal, IsGoodExternal, IsGood}
 use Rattle.ds_check.specs.declared.fault.CountKind.{CountKind}
 use Rattle.ds_check.specs.declared.fault.TypeFault.{TypeFault}
 use Rattle.ds_check.specs.declared.fault.TypeFault.TheVariants.{Twice, TooMany, BadExternal, TwiceLocal, BadBlock, Undefined, WrongType, BadPhi, NotDominating, NoMain, Memory}
-use Rattle.ds_check.specs.Fault.{limit_of, HasFew, count_kinds, IsFreeGlobal, IsGoodExternal, KeepsAll, HasLabels, HasFunctionFault, HasFirstFunctionFault, IsFirstExternal, HasTypeFault, HasCounts, HasExternals, HasGlobals, IsGood}
+use Rattle.ds_check.specs.Fault.{limit_of, HasFew, count_kinds, KeepsAll, HasLabels, HasFunctionFault, HasFirstFunctionFault, IsFirstExternal, HasTypeFault, HasCounts, HasExternals, HasGlobals}
 use Rattle.ds_check.specs.Laws.{OneTypeFault}
-use Rattle.ds_check.proofs.GoodFunction.{nothing_behind}
 use Rattle.ds_check.proofs.NoFault.{never_breaks, not_twice, never_twice, good_has_none, none_has, never_external}
 
 -- FIRST ITEMS
+
+nothing_behind : {X : Type 0} (xs : List X) → xs ++ [] ≡ xs
+nothing_behind [] = refl
+nothing_behind (x ∷ xs) = ap (λ ys. x ∷ ys) (nothing_behind xs)
 
 -- what breaks a rule first stands at one place
 same_place : {X : Type 0} (Keeps : X → Type 0) (b c a d : List X) (x y : X) → b ++ x ∷ a ≡ c ++ y ∷ d → (Keeps x → ⊥) → (Keeps y → ⊥) → All Keeps b → All Keeps c

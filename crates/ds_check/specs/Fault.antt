@@ -1,12 +1,12 @@
 -- The first fault of a module that has a layout, in the order in which they are looked for.
-use Rattle.std.specs.Prelude.{◌≡◌, ℕ, ◌-◌, ◌^◌, ◌≤◌, ◌⊎◌, List, [], ◌∷◌, ◌++◌, length, flat_map, All}
+use Rattle.std.specs.Prelude.{◌≡◌, ℕ, ◌-◌, ◌^◌, ◌⊎◌, List, [], ◌∷◌, ◌++◌, length, All}
 use Rattle.ds_ast.specs.declared.name.Name.{Name}
 use Rattle.ds_ast.specs.declared.module.Module.{Module}
 use Rattle.ds_ast.specs.declared.module.GlobalDef.{GlobalDef}
 use Rattle.ds_ast.specs.declared.module.Function.{Function}
 use Rattle.ds_names.specs.Names.{AreDistinct, IsFirstTwice}
-use Rattle.ds_shape.specs.Types.{instructions_of, IsInitial}
-use Rattle.ds_shape.specs.Accepted.{global_names, HasWords, IsKnownExternal, IsReserved, HasMain, local_names, IsGoodFunction}
+use Rattle.ds_shape.specs.Types.{IsInitial}
+use Rattle.ds_shape.specs.Accepted.{global_names, local_names, most_functions, most_instructions, most_parameters, most_global_words, HasFewFunctions, HasFewInstructions, HasFewParameters, HasFewGlobalWords, IsFreeGlobal, IsGoodExternal, IsGood, HasMain}
 use Rattle.ds_shape.specs.Written.{IsFirstBreach}
 use Rattle.ds_shape.specs.Placed.{Placed, placed_of, BreaksFirst, KeepsTargets, KeepsDefined, KeepsTypes, KeepsPhi, KeepsAssigned}
 use Rattle.ds_check.specs.declared.fault.CountKind.{CountKind}
@@ -18,31 +18,21 @@ use Rattle.ds_check.specs.declared.fault.TypeFault.TheVariants.{Twice, TooMany, 
 
 -- so many at most
 abbrev pub limit_of : CountKind → ℕ
-limit_of Functions = 1024
-limit_of Instructions = 200000
-limit_of Params = 64
-limit_of GlobalWords = 4096
+limit_of Functions = most_functions
+limit_of Instructions = most_instructions
+limit_of Params = most_parameters
+limit_of GlobalWords = most_global_words
 
 -- the module has no more of these than the limit
 abbrev pub HasFew : Module → CountKind → Type 0
-HasFew m Functions = length m.functions ≤ limit_of Functions
-HasFew m Instructions = length (flat_map instructions_of m.functions) ≤ limit_of Instructions
-HasFew m Params = All (λ (f : Function). length f.params ≤ limit_of Params) m.functions
-HasFew m GlobalWords = (n : ℕ) → HasWords m.structs m.globals n → n ≤ limit_of GlobalWords
+HasFew m Functions = HasFewFunctions m
+HasFew m Instructions = HasFewInstructions m
+HasFew m Params = HasFewParameters m
+HasFew m GlobalWords = HasFewGlobalWords m
 
 -- the kinds in the order in which they are counted
 abbrev pub count_kinds : List CountKind
 count_kinds = Functions ∷ Instructions ∷ Params ∷ GlobalWords ∷ []
-
--- NAMES OF THE MODULE
-
--- a global's name is not kept for what the program adds
-abbrev pub IsFreeGlobal : GlobalDef → Type 0
-IsFreeGlobal g = IsReserved g.name → ⊥
-
--- nor is a function's; and one that is declared is a known external
-abbrev pub IsGoodExternal : Function → Type 0
-IsGoodExternal f = (IsReserved f.name → ⊥) × (f.blocks ≡ [] → IsKnownExternal f)
 
 -- FUNCTIONS
 
@@ -72,10 +62,6 @@ HasFunctionFault m n f (TooMany what limit) = ⊥
 HasFunctionFault m n f (BadExternal name) = ⊥
 HasFunctionFault m n f NoMain = ⊥
 HasFunctionFault m n f Memory = ⊥
-
--- a function that is defined keeps all rules
-abbrev pub IsGood : Module → Function → Type 0
-IsGood m f = (f.blocks ≡ [] → ⊥) → IsGoodFunction m f
 
 -- the fault is the first of the first function that has one
 abbrev pub HasFirstFunctionFault : Module → TypeFault → Type 0

@@ -3,7 +3,8 @@ ghost use Rattle.std.specs.Prelude.{◌≡◌, ◌↔◌, ◌⊎◌, [], All, If
 ghost use Rattle.ds_ast.specs.declared.module.GlobalDef.{GlobalDef as global};
 ghost use Rattle.ds_ast.specs.Bounds.{Bounds};
 ghost use Rattle.ds_shape.specs.Types.{IsInitial, Stands};
-ghost use Rattle.ds_check.specs.Fault.{HasFew, HasFirstFunctionFault, HasFunctionFault, IsGood};
+ghost use Rattle.ds_check.specs.Fault.{HasFew, HasFirstFunctionFault, HasFunctionFault};
+ghost use Rattle.ds_shape.specs.Accepted.{IsGood};
 ghost use Rattle.ds_check.specs.declared.fault.CountKind.TheVariants as kinds;
 ghost use Rattle.ds_check.specs.declared.fault.TypeFault.TheVariants as faults;
 

@@ -1,8 +1,8 @@
 //! Whether a module is accepted.
 ghost use Rattle.std.specs.Prelude.{◌≡◌, ◌⊎◌, All, Err, IfErr, IfOk};
 ghost use Rattle.ds_ast.specs.Bounds.{Bounds};
-ghost use Rattle.ds_shape.specs.Accepted.{Accepted, HasLayout, HasMain};
-ghost use Rattle.ds_check.specs.Fault.{HasExternals, HasGlobals, HasTypeFault, IsGood};
+ghost use Rattle.ds_shape.specs.Accepted.{Accepted, HasLayout, HasMain, IsGood};
+ghost use Rattle.ds_check.specs.Fault.{HasExternals, HasGlobals, HasTypeFault};
 ghost use Rattle.ds_check.specs.declared.fault.TypeFault.TheVariants as faults;
 
 use crate::bodies::{are_globals_initial, check_functions};

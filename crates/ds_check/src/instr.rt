@@ -1,8 +1,7 @@
 //! The rules that are looked at one instruction after another.
 ghost use Rattle.std.specs.Prelude.{◌≡◌, ◌<◌, ◌^◌, ◌↔◌, ℕ, All, IfOk, IsTrue, length};
 ghost use Rattle.ds_shape.specs.Types.{IsTypedOp};
-ghost use Rattle.ds_shape.specs.Accepted.{GivesRegister, IsPhi};
-ghost use Rattle.ds_shape.specs.Placed.{Placed as placed, KeepsPhi};
+ghost use Rattle.ds_shape.specs.Placed.{Placed as placed, KeepsPhi, GivesRegister, IsPhi};
 ghost use Rattle.ds_blocks.specs.Predecessors.{ArePredecessorsOf};
 ghost use Rattle.ds_blocks.specs.Sites.{IsSite};
 ghost use Rattle.ds_check.specs.Front.{AreFronts};

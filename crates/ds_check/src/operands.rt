@@ -2,7 +2,7 @@
 ghost use Rattle.std.specs.Prelude.{◌≡◌, ◌↔◌, IsTrue, All, slice_get, Some};
 ghost use Rattle.ds_ast.specs.declared.value.Value.{Value as value};
 ghost use Rattle.ds_ast.specs.declared.operand.Arm.{Arm as arm};
-ghost use Rattle.ds_shape.specs.Accepted.{IsDefined, operands_of};
+ghost use Rattle.ds_shape.specs.Placed.{IsDefined, values_of};
 ghost use Rattle.ds_shape.specs.Flow.{uses_of, arms_of};
 ghost use Rattle.ds_blocks.specs.Uses.{value_of};
 
@@ -57,7 +57,7 @@ fn are_arms_defined(entities: &Entities, locals: &Locals, op: &Op) -> bool
 
 /// Whether all operands of an instruction are defined.
 pub fn are_operands_defined(entities: &Entities, locals: &Locals, op: &Op) -> bool
-    ensures { IsTrue result ↔ All (IsDefined entities.now locals.now) (operands_of op.now) }
+    ensures { IsTrue result ↔ All (IsDefined entities.now locals.now) (values_of op.now) }
 {
     if !are_uses_defined(entities, locals, op) {
         return false;

@@ -1,5 +1,6 @@
 pub mod Sizes
 pub mod Written
+pub mod Externals
 pub mod Types
 pub mod Flow
 pub mod Accepted

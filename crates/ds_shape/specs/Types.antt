@@ -1,7 +1,6 @@
 -- The types of values in a function, and which instructions keep the rules of types.
-use Rattle.std.specs.Prelude.{◌≡◌, ℕ, zero, suc, ◌<◌, ◌⊎◌, List, [], ◌∷◌, ◌++◌, length, map, flat_map, Option, Some, None, All, IfSome, codes}
+use Rattle.std.specs.Prelude.{◌≡◌, ℕ, zero, suc, ◌<◌, ◌⊎◌, List, [], ◌∷◌, ◌++◌, length, map, flat_map, Option, Some, None, slice_get, All, IfSome}
 use Rattle.ds_ast.specs.declared.name.Name.{Name}
-use Rattle.ds_ast.specs.declared.name.Name.TheVariants.{Text}
 use Rattle.ds_ast.specs.declared.ty.Scalar.{Scalar}
 use Rattle.ds_ast.specs.declared.ty.Scalar.TheVariants.{I1, I8, I16, I32, I64, Ptr}
 use Rattle.ds_ast.specs.declared.ty.Ty.{Ty, Void, One, Struct, Array', more_of-Ty, end_of-Ty}
@@ -25,6 +24,7 @@ use Rattle.ds_ast.specs.declared.module.Param.{Param}
 use Rattle.ds_ast.specs.declared.module.Block.{Block}
 use Rattle.ds_ast.specs.Bounds.{width, fields_of}
 use Rattle.ds_names.specs.Names.{Among}
+use Rattle.ds_shape.specs.Externals.{TakesFunction, TakesNull, IsThreadFunction}
 use Rattle.ds_shape.specs.declared.local.LocalType.{LocalType}
 use Rattle.ds_shape.specs.declared.local.LocalType.TheVariants.{Plain, Pair}
 
@@ -34,23 +34,12 @@ use Rattle.ds_shape.specs.declared.local.LocalType.TheVariants.{Plain, Pair}
 abbrev pub Stands : {A : Type 0} → A → List A → Type 0
 Stands {A} item items = (before : List A) × (after : List A) × (items ≡ before ++ item ∷ after)
 
--- each item of the first list goes with the one at its place in the other, and both have as many
-abbrev pub Pairwise : {A B : Type 0} → (A → B → Type 0) → List A → List B → Type 0
-Pairwise P [] [] = Unit {0}
-Pairwise P [] (y ∷ ys) = ⊥
-Pairwise P (x ∷ xs) [] = ⊥
-Pairwise P (x ∷ xs) (y ∷ ys) = P x y × Pairwise P xs ys
-
 -- no number stands there twice
 abbrev pub AreDistinctNumbers : List ℕ → Type 0
 AreDistinctNumbers [] = Unit {0}
 AreDistinctNumbers (n ∷ ns) = All (λ m. m ≡ n → ⊥) ns × AreDistinctNumbers ns
 
 -- NAMES
-
--- the name is this text
-abbrev pub IsCalled : List ℕ → Name → Type 0
-IsCalled bytes name = name ≡ Text bytes
 
 -- a global has the name
 abbrev pub IsGlobal : Module → Name → Type 0
@@ -154,14 +143,6 @@ IsNoVoid (Struct name) = Unit {0}
 abbrev pub FieldAt : List Ty → ℕ → Ty → Type 0
 FieldAt fields n next = (before : List Ty) × (after : List Ty) × (fields ≡ before ++ next ∷ after) × (length before ≡ n)
 
--- the function is what pthread_create starts: ptr (ptr), and defined
-abbrev pub IsThreadFunction : Function → Type 0
-IsThreadFunction g = (g.result ≡ One Ptr) × (map (λ (p : Param). p.ty) g.params ≡ Ptr ∷ []) × (g.blocks ≡ [] → ⊥)
-
--- the function is this external: declared
-abbrev pub IsExternal : List ℕ → Function → Type 0
-IsExternal bytes g = IsCalled bytes g.name × (g.blocks ≡ [])
-
 module _ (m : Module) where
   -- a type behind one index more: that of an array's elements by any index, that of a struct's field by its number as a literal of i32
   abbrev pub Steps : Ty → Operand → Ty → Type 0
@@ -202,25 +183,16 @@ module _ (m : Module) (f : Function) where
   abbrev pub IsTypedOperand : Operand → Type 0
   IsTypedOperand o = HasType o.ty o.value
 
-  -- the argument of a call has the type of the parameter
-  abbrev pub IsArgument : Operand → Param → Type 0
-  IsArgument o p = (o.ty ≡ p.ty) × IsTypedOperand o
+  -- the argument behind so many others is what the function takes there: the name of a function that a thread runs, or else an operand; and null where it takes null
+  abbrev pub IsPassedAs : Function → ℕ → Operand → Type 0
+  IsPassedAs g n o =
+      (TakesFunction g n → IsThreadStart m o.value) × ((TakesFunction g n → ⊥) → IsTypedOperand o) × (TakesNull g n → o.value ≡ Null)
 
-  abbrev pub CreateArguments : List Operand → Type 0
-  CreateArguments (id ∷ attributes ∷ start ∷ argument ∷ []) =
-      (id.ty ≡ Ptr) × IsTypedOperand id × (attributes.ty ≡ Ptr) × (attributes.value ≡ Null) × (start.ty ≡ Ptr) × IsThreadStart m start.value × (argument.ty ≡ Ptr) × IsTypedOperand argument
-  CreateArguments other = ⊥
-
-  abbrev pub JoinArguments : List Operand → Type 0
-  JoinArguments (id ∷ result ∷ []) = (id.ty ≡ I64) × IsTypedOperand id × (result.ty ≡ Ptr) × (result.value ≡ Null)
-  JoinArguments other = ⊥
-
-  -- the arguments of pthread_create: where the identifier goes, null, a function and its argument; those of pthread_join: the identifier and null
+  -- there are as many arguments as parameters, each of the parameter's type
   abbrev pub ArePassed : Function → List Operand → Type 0
   ArePassed g args =
-      (IsExternal (codes "pthread_create") g × CreateArguments args)
-      ⊎ ((IsExternal (codes "pthread_join") g × JoinArguments args)
-      ⊎ ((IsExternal (codes "pthread_create") g → ⊥) × (IsExternal (codes "pthread_join") g → ⊥) × Pairwise IsArgument args g.params))
+      (length args ≡ length g.params)
+      × ((n : ℕ) (o : Operand) (p : Param) → slice_get args n ≡ Some o → slice_get g.params n ≡ Some p → (o.ty ≡ p.ty) × IsPassedAs g n o)
 
   -- THE RULE OF EACH INSTRUCTION
   abbrev pub IsTypedOp : Op → Type 0

@@ -7,7 +7,8 @@ use Rattle.ds_ast.specs.declared.init.Init.{Init}
 use Rattle.ds_ast.specs.declared.init.Init as init
 use Rattle.ds_ast.specs.declared.init.Init.TheBlock.{hidden-the_row-Init-0}
 use Rattle.ds_ast.specs.declared.module.Module.{Module}
-use Rattle.ds_shape.specs.Types.{IsInitial, AreElements, AreFields, Pairwise, array_of, struct_fields}
+use Rattle.ds_shape.specs.Types.{IsInitial, AreElements, AreFields, array_of, struct_fields}
+use Rattle.std.specs.List.{AllZip}
 use denote.Hole.Carrier.{hidden}
 
 array_of-array : (n : ℕ) (of : Ty) → array_of (ty.Array n of) ≡ Some (n, of)
@@ -34,7 +35,7 @@ module _ (m : Module) where
   elements_count n of [] e = sym e
   elements_count n of (x ∷ xs) e = ap (λ k. suc k) (elements_count e.0 of xs e.3) ∙ sym e.1
 
-  fields : (types : List Ty) (parts : List Init) → AreFields m (Some types) (hidden-the_row-Init-0 parts) ↔ Pairwise (IsInitial m) types parts
+  fields : (types : List Ty) (parts : List Init) → AreFields m (Some types) (hidden-the_row-Init-0 parts) ↔ AllZip (IsInitial m) types parts
   unfolding hidden-the_row-Init-0 hidden
   fields [] [] = (λ f. f, λ f. f)
   fields [] (x ∷ xs) = (λ f. f, λ f. f)
@@ -71,7 +72,7 @@ module _ (m : Module) where
   pub no_array : (t : Ty) (parts : List Init) → array_of t ≡ None → IsTrue false ↔ IsInitial m t (init.Array parts)
   no_array t parts none = never (IsInitial m t (init.Array parts)) (λ e. none_are parts (subst (λ o. AreElements m o (hidden-the_row-Init-0 parts)) none e))
 
-  pub struct_fits : (t : Ty) (types : List Ty) (parts : List Init) (b : Bool) → struct_fields m t ≡ Some types → (IsTrue b ↔ Pairwise (IsInitial m) types parts) → IsTrue b ↔ IsInitial m t (init.Fields parts)
+  pub struct_fits : (t : Ty) (types : List Ty) (parts : List Init) (b : Bool) → struct_fields m t ≡ Some types → (IsTrue b ↔ AllZip (IsInitial m) types parts) → IsTrue b ↔ IsInitial m t (init.Fields parts)
   struct_fits t types parts b of_is fits = (
     λ b_yes. subst (λ o. AreFields m o (hidden-the_row-Init-0 parts)) (sym of_is) ((fields types parts).1 (fits.0 b_yes)),
     λ e. fits.1 ((fields types parts).0 (subst (λ o. AreFields m o (hidden-the_row-Init-0 parts)) of_is e)),

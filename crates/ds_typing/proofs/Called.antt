@@ -8,8 +8,9 @@ use Rattle.ds_ast.specs.declared.module.Module.{Module}
 use Rattle.ds_ast.specs.declared.module.Function.{Function}
 use Rattle.ds_ast.specs.declared.instr.Op.TheVariants.{Call}
 use Rattle.ds_names.specs.Names.{Among}
-use Rattle.ds_shape.specs.Types.{Stands, IsFunction, IsThreadFunction, IsThreadStart, IsTypedOp, ArePassed}
+use Rattle.ds_shape.specs.Types.{Stands, IsFunction, IsThreadStart, IsTypedOp, ArePassed}
 use Rattle.ds_scope.specs.Scope.{IsFunctionOf}
+use Rattle.ds_shape.specs.Externals.{IsThreadFunction}
 
 -- a function that stands there has a name of theirs
 named : (g : Function) (before after : List Function) → Among g.name (map (λ (f : Function). f.name) (before ++ g ∷ after))

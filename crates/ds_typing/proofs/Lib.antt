@@ -2,4 +2,5 @@ pub mod Begun
 pub mod Called
 pub mod Kept
 pub mod Pairs
+pub mod Passed
 pub mod Walked

@@ -1,8 +1,7 @@
 use Rattle.std.proofs.Common.{◌<◌, ◌≤◌, length, sym, ap, subst, true≢false, ◌∙◌}
 use Rattle.std.specs.Prelude.{All}
 use Rattle.ds_ast.specs.declared.module.Function.{Function}
-use Rattle.ds_shape.specs.Placed.{placed_of, KeepsTargets}
-use Rattle.ds_shape.specs.Accepted.{IsTarget}
+use Rattle.ds_shape.specs.Placed.{placed_of, KeepsTargets, IsTarget}
 use Rattle.ds_shape.specs.Flow.{targets_of}
 use Rattle.ds_blocks.proofs.Breach.{kept_all}
 use Rattle.ds_blocks.proofs.Branched.{breaks_at, keeps_at}

@@ -1,4 +1,4 @@
-use Rattle.ds_check.specs.Fault.{IsFreeGlobal}
+use Rattle.ds_shape.specs.Accepted.{IsFreeGlobal}
 use Rattle.ds_check.proofs.Breach.{breach_at, kept_all}
 use Rattle.ds_check.proofs.kept_names.first_global.Goals as goal
 

@@ -1,7 +1,7 @@
 use Rattle.std.proofs.Common.{take}
 use Rattle.std.specs.Prelude.{All}
 use Rattle.ds_ast.specs.declared.operand.Arm.{Arm}
-use Rattle.ds_shape.specs.Accepted.{IsDefined}
+use Rattle.ds_shape.specs.Placed.{IsDefined}
 use Rattle.ds_shape.specs.Flow.{arms_of}
 use Rattle.ds_check.proofs.operands.are_arms_defined.Given as goal
 

@@ -2,7 +2,7 @@ use Rattle.std.proofs.Common.{sym, ◌∙◌, subst}
 use Rattle.std.specs.Prelude.{Option}
 use Rattle.ds_shape.specs.declared.local.LocalType.{LocalType}
 use Rattle.ds_shape.specs.Types.{Defines}
-use Rattle.ds_shape.specs.Accepted.{IsDefined}
+use Rattle.ds_shape.specs.Placed.{IsDefined}
 use Rattle.ds_scope.proofs.Meant.{is_found}
 use Rattle.ds_scope.proofs.defined.is_defined.Goals as goal
 

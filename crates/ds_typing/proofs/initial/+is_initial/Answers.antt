@@ -1,10 +1,10 @@
-use Rattle.std.proofs.Common.{◌≡◌, ◌↔◌, IsTrue, true≢false, sym, refl, subst, arith, List}
+use Rattle.std.proofs.Common.{◌≡◌, ◌↔◌, IsTrue, true, false, true≢false, sym, refl, subst, arith, List}
 use Rattle.ds_ast.specs.declared.ty.Ty as ty
 use Rattle.ds_ast.specs.declared.init.Init.{Init}
 use Rattle.ds_ast.specs.declared.init.Init as init
 use Rattle.ds_shape.specs.Types.{IsInitial}
 use Rattle.ds_typing.proofs.Begun.{array_fits, array_apart, struct_fits}
-use Rattle.ds_typing.proofs.Pairs.{same_lengths, apart_at, all_pairs}
+use Rattle.ds_typing.proofs.Pairs.{AtAny, same_lengths, apart_at, all_pairs, zipped}
 use Rattle.ds_typing.proofs.initial.+is_initial.Goals as goal
 
 pub are_fields-returns-then-types-parts : goal.are_fields-returns-then-types-parts
@@ -13,14 +13,16 @@ are_fields-returns-then-types-parts t c =
 
 pub are_fields-returns-then-not-is_initial : goal.are_fields-returns-then-not-is_initial
 are_fields-returns-then-not-is_initial t c =
-    apart_at (IsInitial c.args.entities.now) c.args.types.now c.args.parts.now c.loop-i.i c.index-types-i.result c.index-parts-i.result c.is_initial.result c.loop-i-test.true c.index-types-i.is
-    c.index-parts-i.is c.is_initial.ensures c.if-not-is_initial.true
+    let is = IsInitial c.args.entities.now in
+    zipped is c.args.types.now c.args.parts.now false
+    (apart_at (AtAny is) c.args.types.now c.args.parts.now c.loop-i.i c.index-types-i.result c.index-parts-i.result c.is_initial.result c.loop-i-test.true c.if-types-parts.false c.index-types-i.is
+    c.index-parts-i.is c.is_initial.ensures c.if-not-is_initial.true)
 
 pub are_fields-returns : goal.are_fields-returns
-are_fields-returns t c = (
-  λ yes'. all_pairs (IsInitial c.args.entities.now) c.args.types.now c.args.parts.now c.if-types-parts.false (λ k d e below. c.loop-i.invariant k d e (omega (arith, below, c.loop-i-test.false))),
-  λ pairs. refl,
-)
+are_fields-returns t c =
+    let is = IsInitial c.args.entities.now in
+    zipped is c.args.types.now c.args.parts.now true
+    (λ yes'. all_pairs (AtAny is) c.args.types.now c.args.parts.now c.if-types-parts.false (λ k d e below. c.loop-i.invariant k d e (omega (arith, below, c.loop-i-test.false))), λ each. refl)
 
 pub is_array-returns-then-parts-count : goal.is_array-returns-then-parts-count
 is_array-returns-then-parts-count t c =
