@@ -18,7 +18,8 @@ use Rattle.ds_scope.specs.declared.meaning.Meaning.{Meaning}
 use Rattle.ds_scope.specs.declared.meaning.Meaning.TheVariants.{Parameter, Label, Result}
 use Rattle.ds_scope.specs.Scope.{Means}
 use Rattle.ds_shape.specs.declared.local.LocalType.{LocalType}
-use Rattle.ds_shape.specs.Flow.{IsAssignedAt, uses_of, arms_of}
+use Rattle.ds_shape.specs.Flow.{arms_of, IsAssignedAt}
+use Rattle.ds_shape.specs.Operands.{uses_of}
 use Rattle.ds_shape.specs.Placed.{Placed, BreaksFirst, KeepsAssigned, placed_of, IsAssignedArm, IsAssignedUse}
 use Rattle.ds_shape.specs.Types.{Stands}
 use Rattle.ds_assigned.proofs.Assigned.{IsMeaning, parameter_assigned, label_tells, nothing_tells, result_tells}

@@ -7,7 +7,8 @@ ghost use Rattle.ds_blocks.specs.Sites.{IsSite};
 ghost use Rattle.ds_blocks.specs.Uses.{value_of};
 ghost use Rattle.ds_names.specs.Names.{AreDistinct};
 ghost use Rattle.ds_shape.specs.Accepted.{local_names};
-ghost use Rattle.ds_shape.specs.Flow.{arms_of, uses_of};
+ghost use Rattle.ds_shape.specs.Operands.{uses_of};
+ghost use Rattle.ds_shape.specs.Flow.{arms_of};
 ghost use Rattle.ds_shape.specs.Placed.{Placed as placed, BreaksFirst, KeepsAssigned, placed_of, IsAssignedArm, IsAssignedUse};
 
 use crate::flow::Flow;

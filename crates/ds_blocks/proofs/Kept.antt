@@ -19,7 +19,7 @@ use Rattle.ds_ast.specs.declared.module.Function.{Function}
 use Rattle.ds_ast.specs.declared.module.Block.{Block}
 use Rattle.ds_graph.specs.Graph.{Edges, HasEdge}
 use Rattle.ds_shape.specs.Types.{Stands}
-use Rattle.ds_shape.specs.Flow.{IsEdge, arms_of}
+use Rattle.ds_shape.specs.Flow.{arms_of, IsEdge}
 use Rattle.ds_shape.specs.Placed.{IsPhi, IsGoodPhi}
 use Rattle.ds_scope.specs.Scope.{Means}
 use Rattle.ds_scope.specs.declared.meaning.Meaning.TheVariants.{Label}

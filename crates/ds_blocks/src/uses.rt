@@ -1,7 +1,8 @@
 //! The values that an instruction uses.
 ghost use Rattle.std.specs.Prelude.{◌≡◌, [], ◌∷◌, suc, length, map, option_map, option_to_list, slice_get};
 ghost use Rattle.ds_ast.specs.declared.operand.Operand.{Operand as typed};
-ghost use Rattle.ds_shape.specs.Flow.{uses_of, arms_of};
+ghost use Rattle.ds_shape.specs.Operands.{uses_of};
+ghost use Rattle.ds_shape.specs.Flow.{arms_of};
 ghost use Rattle.ds_blocks.specs.Uses.{value_of};
 
 use ds_ast::{Arm, Name, Op, Operand, Value};

@@ -14,7 +14,7 @@ use Rattle.ds_ast.specs.declared.instr.Op.{Op}
 use Rattle.std.specs.declared.alloc.AllocError.{AllocError}
 use Rattle.ds_shape.specs.Flow.{arms_of}
 use Rattle.ds_shape.specs.Types.{IsTypedOp}
-use Rattle.ds_shape.specs.Placed.{Placed, KeepsDefined, KeepsTypes, KeepsPhi, IsPhi, IsGoodPhi, IsDefined, values_of, GivesRegister}
+use Rattle.ds_shape.specs.Placed.{values_of, Placed, KeepsDefined, KeepsTypes, KeepsPhi, IsPhi, IsGoodPhi, IsDefined, GivesRegister}
 use Rattle.ds_blocks.specs.declared.sites.Site.{Site}
 use Rattle.ds_blocks.specs.Sites.{IsSite}
 use Rattle.ds_check.specs.Front.{IsFront, AreFronts}

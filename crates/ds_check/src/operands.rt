@@ -2,8 +2,9 @@
 ghost use Rattle.std.specs.Prelude.{◌≡◌, ◌↔◌, IsTrue, All, slice_get, Some};
 ghost use Rattle.ds_ast.specs.declared.value.Value.{Value as value};
 ghost use Rattle.ds_ast.specs.declared.operand.Arm.{Arm as arm};
-ghost use Rattle.ds_shape.specs.Placed.{IsDefined, values_of};
-ghost use Rattle.ds_shape.specs.Flow.{uses_of, arms_of};
+ghost use Rattle.ds_shape.specs.Placed.{values_of, IsDefined};
+ghost use Rattle.ds_shape.specs.Operands.{uses_of};
+ghost use Rattle.ds_shape.specs.Flow.{arms_of};
 ghost use Rattle.ds_blocks.specs.Uses.{value_of};
 
 use ds_ast::Op;

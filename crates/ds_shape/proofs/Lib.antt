@@ -1,6 +1,7 @@
 pub mod Deeper
 pub mod Standing
 mod Tried
+pub mod TriedModule
 pub mod Exist
 pub mod Caps
 pub mod Arrays

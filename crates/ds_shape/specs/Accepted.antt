@@ -1,6 +1,8 @@
--- When a module is well formed, and when it is accepted. The fields of a record stand in the order in which the faults are looked for, one a fault.
+-- When a module is well formed, and when it is accepted. The fields of a record stand in the order in which the faults
+-- are looked for, one a fault.
 --
--- To be read in this order: Bounds of ds_ast, which a text keeps; Sizes and Written: the sizes of types; Types: values and the rule of types of each instruction; Externals: the
+-- To be read in this order: Bounds of ds_ast, which a text keeps; Sizes and Written: the sizes of types; Types: values
+-- and the rule of types of each instruction; Externals: the
 -- functions that are declared; Flow: blocks and paths; Placed: the rules of one instruction; and this file.
 use Rattle.std.specs.Prelude.{◌≡◌, ℕ, ◌+◌, ◌/◌, ◌≤◌, ◌⊎◌, List, [], ◌∷◌, ◌++◌, length, map, flat_map, All, codes}
 use Rattle.ds_ast.specs.declared.name.Name.{Name}
@@ -17,11 +19,13 @@ use Rattle.ds_shape.specs.Sizes.{Extent, HasExtent, rounded}
 use Rattle.ds_shape.specs.Written.{Line, lines_of, written_names, struct_names, IsUnknown, IsRecursive, AnyTooLarge}
 use Rattle.ds_shape.specs.Externals.{IsCalled, IsDeclaredFrom, externals, parameter_types}
 use Rattle.ds_shape.specs.Types.{Stands, instructions_of, IsTypedOp, IsInitial}
-use Rattle.ds_shape.specs.Placed.{Placed, placed_of, GivesRegister, KeepsTargets, KeepsDefined, KeepsPhi, KeepsAssigned}
+use Rattle.ds_shape.specs.Placed.{Placed, placed_of, GivesRegister, KeepsTargets, KeepsDefined, KeepsPhi}
+use Rattle.ds_shape.specs.Placed.{KeepsAssigned}
 
 -- LAYOUT
 
--- the module has a layout: each struct has one line, each name of one has a line, none holds itself, and no type that is written has more than 2 ^ 31 bytes
+-- the module has a layout: each struct has one line, each name of one has a line, none holds itself, and no type that
+-- is written has more than 2 ^ 31 bytes
 pub record HasLayout (m : Module) : Type 0 where
   pub no_twice_type : AreDistinct (struct_names m.structs)
   pub no_unknown : All (λ name. IsUnknown m name → ⊥) (written_names m)
@@ -69,7 +73,8 @@ most_global_words = 4096
 -- the words of globals from one on: each begins at a multiple of 8 bytes
 abbrev pub HasWords : List StructDef → List GlobalDef → ℕ → Type 0
 HasWords structs [] n = n ≡ 0
-HasWords structs (g ∷ gs) n = (e : Extent) × (k : ℕ) × HasExtent structs g.ty e × HasWords structs gs k × (n ≡ rounded e.size 8 / 8 + k)
+HasWords structs (g ∷ gs) n =
+    (e : Extent) × (k : ℕ) × HasExtent structs g.ty e × HasWords structs gs k × (n ≡ rounded e.size 8 / 8 + k)
 
 -- functions that are declared or defined
 abbrev pub HasFewFunctions : Module → Type 0
@@ -107,7 +112,8 @@ pub record IsGoodFunction (m : Module) (f : Function) : Type 0 where
 abbrev pub IsGood : Module → Function → Type 0
 IsGood m f = (f.blocks ≡ [] → ⊥) → IsGoodFunction m f
 
--- the function is a main that a program begins with: defined, it gives nothing or an i32, and takes nothing or the number and the addresses of its words
+-- the function is a main that a program begins with: defined, it gives nothing or an i32, and takes nothing or the
+-- number and the addresses of its words
 abbrev pub IsMain : Function → Type 0
 IsMain f =
     (f.blocks ≡ [] → ⊥) × IsCalled (codes "main") f.name × ((f.result ≡ Void) ⊎ (f.result ≡ One I32))

@@ -1,6 +1,7 @@
 pub mod Sizes
 pub mod Written
 pub mod Externals
+pub mod Operands
 pub mod Types
 pub mod Flow
 pub mod Accepted

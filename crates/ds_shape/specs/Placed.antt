@@ -1,4 +1,5 @@
--- The instructions of a function in the order of the text, each with its number and its place, and the rules that each keeps.
+-- The instructions of a function in the order of the text, each with its number and its place, and the rules that each
+-- keeps.
 use Rattle.std.specs.Prelude.{◌≡◌, ℕ, suc, ◌+◌, ◌⊎◌, ◌↔◌, List, [], ◌∷◌, ◌++◌, length, map, Option, All}
 use Rattle.ds_ast.specs.declared.name.Name.{Name}
 use Rattle.ds_ast.specs.declared.ty.Scalar.{Scalar}
@@ -14,7 +15,8 @@ use Rattle.ds_ast.specs.declared.module.Block.{Block}
 use Rattle.ds_shape.specs.Written.{IsFirstBreach}
 use Rattle.ds_shape.specs.declared.local.LocalType.{LocalType}
 use Rattle.ds_shape.specs.Types.{Stands, IsGlobal, IsFunction, Defines, IsTypedOp}
-use Rattle.ds_shape.specs.Flow.{uses_of, arms_of, targets_of, IsEntry, IsEdge, IsAssignedAt}
+use Rattle.ds_shape.specs.Operands.{uses_of}
+use Rattle.ds_shape.specs.Flow.{arms_of, targets_of, IsEntry, IsEdge, IsAssignedAt}
 
 -- an instruction, its number in the function, the block in which it stands, and the instructions before it there
 pub record Placed : Type 0 where
@@ -26,7 +28,8 @@ pub record Placed : Type 0 where
 -- those of a block from one on, which has this number and stands behind these
 abbrev pub placed_in : ℕ → Block → List Instr → List Instr → List Placed
 placed_in number b front [] = []
-placed_in number b front (i ∷ code) = record { number = number; block = b; front = front; instr = i } ∷ placed_in (suc number) b (front ++ i ∷ []) code
+placed_in number b front (i ∷ code) =
+    record { number = number; block = b; front = front; instr = i } ∷ placed_in (suc number) b (front ++ i ∷ []) code
 
 -- those of blocks, of which the first instruction has this number
 abbrev pub placed_from : ℕ → List Block → List Placed
@@ -71,7 +74,8 @@ KeepsDefined m f p = All (IsDefined m f) (values_of p.instr.op)
 abbrev pub GivesRegister : Ty → Type 0
 GivesRegister t = (t ≡ Void) ⊎ ((s : Scalar) × (t ≡ One s))
 
--- the instruction keeps the rule of its types; and the first answers for the function's result, which is none or what a register holds
+-- the instruction keeps the rule of its types; and the first answers for the function's result, which is none or what
+-- a register holds
 abbrev pub KeepsTypes : Module → Function → Placed → Type 0
 KeepsTypes m f p = IsTypedOp m f p.instr.op × (p.number ≡ 0 → GivesRegister f.result)
 
@@ -81,7 +85,8 @@ KeepsTypes m f p = IsTypedOp m f p.instr.op × (p.number ≡ 0 → GivesRegister
 abbrev pub IsPhi : Instr → Type 0
 IsPhi i = arms_of i.op ≡ [] → ⊥
 
--- A phi stands at the front of its block, behind phis alone; its labels are those of the blocks from which an edge leads here; and one label has one value.
+-- A phi stands at the front of its block, behind phis alone; its labels are those of the blocks from which an edge
+-- leads here; and one label has one value.
 pub record IsGoodPhi (f : Function) (c : Block) (front : List Instr) (o : Op) : Type 0 where
   pub at_front : All IsPhi front
   pub labels : (b : Block) → Stands b f.blocks → (IsEdge f b c ↔ Stands b.name (map (λ (a : Arm). a.from) (arms_of o)))
@@ -106,9 +111,11 @@ IsAssignedUse f c front (Global name) = Unit {0}
 abbrev pub IsAssignedArm : Function → Arm → Type 0
 IsAssignedArm f a = (b : Block) → Stands b f.blocks → b.name ≡ a.from → IsAssignedUse f b b.code a.value
 
--- each value that the instruction uses is assigned on every path to it, and that of an arm on every path to the end of the arm's block
+-- each value that the instruction uses is assigned on every path to it, and that of an arm on every path to the end of
+-- the arm's block
 abbrev pub KeepsAssigned : Function → Placed → Type 0
-KeepsAssigned f p = All (IsAssignedUse f p.block p.front) (uses_of p.instr.op) × All (IsAssignedArm f) (arms_of p.instr.op)
+KeepsAssigned f p =
+    All (IsAssignedUse f p.block p.front) (uses_of p.instr.op) × All (IsAssignedArm f) (arms_of p.instr.op)
 
 -- FAULTS
 

@@ -8,7 +8,7 @@ use Rattle.ds_ast.specs.declared.module.Module.{Module}
 use Rattle.ds_ast.specs.declared.module.Function.{Function}
 use Rattle.ds_ast.specs.declared.instr.Op.TheVariants.{Call}
 use Rattle.ds_names.specs.Names.{Among}
-use Rattle.ds_shape.specs.Types.{Stands, IsFunction, IsThreadStart, IsTypedOp, ArePassed}
+use Rattle.ds_shape.specs.Types.{Stands, IsFunction, IsThreadStart, KeepsRule, ArePassed}
 use Rattle.ds_scope.specs.Scope.{IsFunctionOf}
 use Rattle.ds_shape.specs.Externals.{IsThreadFunction}
 
@@ -31,11 +31,11 @@ starts_nowhere m name no_function = (λ t. absurd (true≢false (sym t)), λ h. 
 module _ (m : Module) (f : Function) where
   -- the one function of the name is called
   pub called_here : (t : Ty) (name : Name) (args : List Operand) (g : Function) (b : Bool) → IsFunctionOf m name g → t ≡ g.result → (IsTrue b ↔ ArePassed m f g args)
-      → IsTrue b ↔ IsTypedOp m f (Call t name args)
+      → IsTrue b ↔ KeepsRule m f (Call t name args)
   called_here t name args g b one same fits = (λ yes'. (g, one.stands, one.called, same, fits.0 yes'), λ h. fits.1 (subst (λ k. ArePassed m f k args) (one.alone h.0 h.1 h.2) h.4))
 
-  pub other_result : (t : Ty) (name : Name) (args : List Operand) (g : Function) → IsFunctionOf m name g → (t ≡ g.result → ⊥) → IsTrue false ↔ IsTypedOp m f (Call t name args)
+  pub other_result : (t : Ty) (name : Name) (args : List Operand) (g : Function) → IsFunctionOf m name g → (t ≡ g.result → ⊥) → IsTrue false ↔ KeepsRule m f (Call t name args)
   other_result t name args g one other = (λ yes'. absurd (true≢false (sym yes')), λ h. absurd (other (h.3 ∙ ap (λ (k : Function). k.result) (one.alone h.0 h.1 h.2))))
 
-  pub called_nowhere : (t : Ty) (name : Name) (args : List Operand) → (IsFunction m name → ⊥) → IsTrue false ↔ IsTypedOp m f (Call t name args)
+  pub called_nowhere : (t : Ty) (name : Name) (args : List Operand) → (IsFunction m name → ⊥) → IsTrue false ↔ KeepsRule m f (Call t name args)
   called_nowhere t name args no_function = (λ yes'. absurd (true≢false (sym yes')), λ h. absurd (no_function (is_function m name h.0 h.1 h.2)))

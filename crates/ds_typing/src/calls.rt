@@ -4,7 +4,7 @@ ghost use Rattle.ds_ast.specs.declared.ty.Scalar.TheVariants.{Ptr};
 ghost use Rattle.ds_ast.specs.declared.value.Value.TheVariants.{Global, Null};
 ghost use Rattle.ds_ast.specs.declared.instr.Op.TheVariants.{Call};
 ghost use Rattle.ds_shape.specs.Externals.{parameter_types, IsExternal, IsThreadFunction, TakesFunction, TakesNull};
-ghost use Rattle.ds_shape.specs.Types.{IsThreadStart, IsTypedOp, IsPassedAs, ArePassed};
+ghost use Rattle.ds_shape.specs.Types.{IsThreadStart, KeepsRule, IsPassedAs, ArePassed};
 ghost use Rattle.std.specs.List.{AllZip};
 
 use crate::values::is_typed_operand;
@@ -161,7 +161,7 @@ pub fn is_typed_call(
     callee: &Name,
     arguments: &[Operand],
 ) -> bool
-    ensures { IsTrue result ↔ IsTypedOp entities.now locals.now (Call result_type.now callee.now arguments.now) }
+    ensures { IsTrue result ↔ KeepsRule entities.now locals.now (Call result_type.now callee.now arguments.now) }
 {
     match entities.function(callee) {
         Some(function) => {

@@ -1,6 +1,6 @@
 use Rattle.std.proofs.Common.{take}
 use Rattle.ds_shape.specs.Placed.{IsAssignedUse}
-use Rattle.ds_shape.specs.Flow.{uses_of}
+use Rattle.ds_shape.specs.Operands.{uses_of}
 use Rattle.ds_assigned.proofs.Told.{judged_more, judged_all}
 use Rattle.ds_assigned.proofs.unassigned.are_uses_assigned.Goals as goal
 

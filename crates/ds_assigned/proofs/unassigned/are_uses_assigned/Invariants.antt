@@ -2,7 +2,7 @@ use Rattle.std.proofs.Common.{◌≡◌, take, slice_get, Some}
 use Rattle.std.specs.Prelude.{All}
 use Rattle.ds_ast.specs.declared.module.Block.{Block}
 use Rattle.ds_shape.specs.Placed.{IsAssignedUse}
-use Rattle.ds_shape.specs.Flow.{uses_of}
+use Rattle.ds_shape.specs.Operands.{uses_of}
 use Rattle.ds_assigned.proofs.unassigned.are_uses_assigned.Given as goal
 
 abbrev pub invariant-loop-n : goal.invariant-loop-n

@@ -1,7 +1,7 @@
 use Rattle.std.proofs.Common.{sym, subst, true≢false, ◌∙◌}
 use Rattle.std.specs.Prelude.{All}
 use Rattle.ds_ast.specs.declared.module.Function.{Function}
-use Rattle.ds_shape.specs.Placed.{IsDefined, values_of}
+use Rattle.ds_shape.specs.Placed.{values_of, IsDefined}
 use Rattle.ds_check.proofs.Judged.{none_broken, phi_broken}
 use Rattle.ds_check.proofs.instr.first_broken.Goals as goal
 

@@ -1,6 +1,7 @@
 use Rattle.ds_ast.specs.declared.operand.Arm.{Arm}
 use Rattle.ds_shape.specs.Placed.{IsDefined}
-use Rattle.ds_shape.specs.Flow.{uses_of, arms_of}
+use Rattle.ds_shape.specs.Operands.{uses_of}
+use Rattle.ds_shape.specs.Flow.{arms_of}
 use Rattle.ds_check.proofs.Defined.{all_operands}
 use Rattle.ds_check.proofs.operands.are_operands_defined.Goals as goal
 

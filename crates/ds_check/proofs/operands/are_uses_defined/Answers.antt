@@ -1,5 +1,5 @@
 use Rattle.ds_shape.specs.Placed.{IsDefined}
-use Rattle.ds_shape.specs.Flow.{uses_of}
+use Rattle.ds_shape.specs.Operands.{uses_of}
 use Rattle.ds_check.proofs.Defined.{judged_more, judged_not, judged_all}
 use Rattle.ds_check.proofs.operands.are_uses_defined.Goals as goal
 
