@@ -23,7 +23,7 @@ use Rattle.ds_shape.specs.Operands.{uses_of}
 use Rattle.ds_shape.specs.Placed.{Placed, BreaksFirst, KeepsAssigned, placed_of, IsAssignedArm, IsAssignedUse}
 use Rattle.ds_shape.specs.Types.{Stands}
 use Rattle.ds_assigned.proofs.Assigned.{IsMeaning, parameter_assigned, label_tells, nothing_tells, result_tells}
-use Rattle.ds_assigned.proofs.Breach.{breach_at, kept_more, kept_all}
+use Rattle.ds_shape.specs.Breaches.{breach_at, kept_more, kept_all}
 use Rattle.ds_assigned.proofs.Stands.{number_of, one_item, item_at, stands_at}
 
 -- NAMES

@@ -14,7 +14,7 @@ use Rattle.ds_scope.specs.declared.meaning.Meaning.TheVariants.{Label}
 use Rattle.ds_blocks.specs.declared.sites.Site.{Site}
 use Rattle.ds_blocks.specs.Sites.{IsSite, sites_from}
 use Rattle.ds_blocks.proofs.Along.{many_sites, site_of}
-use Rattle.ds_blocks.proofs.Breach.{breach_at, kept_more}
+use Rattle.ds_shape.specs.Breaches.{breach_at, kept_more}
 use Rattle.ds_blocks.proofs.Standing.{some_is, stands_at, number_of, item_at, got_at, there_is}
 
 begins : {X : Type 0} (xs : List X) (x : X) → slice_get xs 0 ≡ Some x → (rest : List X) × (xs ≡ x ∷ rest)

@@ -25,7 +25,7 @@ use Rattle.ds_scope.specs.Scope.{Means}
 use Rattle.ds_scope.specs.declared.meaning.Meaning.TheVariants.{Label}
 use Rattle.ds_blocks.specs.Predecessors.{ArePredecessorsOf}
 use Rattle.ds_blocks.specs.Phis.{Values, HasValue, IsNumber, Fits, Agrees, Keeps, AreKept, HasEach}
-use Rattle.ds_blocks.proofs.Breach as breach
+use Rattle.ds_shape.specs.Breaches as breach
 use Rattle.ds_blocks.proofs.Standing.{some_is, stands_at, number_of, there_is, stands_more, stands_last, none_first, stands_map, stands_mapped}
 use Rattle.ds_blocks.proofs.Leads.{nothing_in, edge_from}
 use Rattle.ds_blocks.proofs.Reversed.{has_iff}

@@ -9,7 +9,7 @@ use Rattle.ds_ast.specs.declared.name.Name.{Name}
 use Rattle.ds_ast.specs.declared.module.Function.{Function}
 use Rattle.ds_shape.specs.declared.local.LocalType.{LocalType}
 use Rattle.ds_shape.specs.Types.{Defines}
-use Rattle.ds_check.proofs.Breach.{kept_more, kept_all}
+use Rattle.ds_shape.specs.Breaches.{kept_more, kept_all}
 
 -- a name is that of a local value exactly if it has a type
 pub local_defined : (f : Function) (name : Name) (r : Option (Option LocalType)) (b : Bool) → ((t : Option LocalType) → (r ≡ Some t ↔ Defines f name t)) → b ≡ is_some r

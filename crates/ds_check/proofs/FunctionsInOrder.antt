@@ -8,7 +8,7 @@ use Rattle.ds_ast.specs.declared.module.Function.{Function}
 use Rattle.ds_shape.specs.Types.{Stands}
 use Rattle.ds_check.specs.declared.fault.TypeFault.{TypeFault}
 use Rattle.ds_check.specs.Fault.{HasFunctionFault, HasFirstFunctionFault}
-use Rattle.ds_check.proofs.Breach.{stands_at, kept_more}
+use Rattle.ds_shape.specs.Breaches.{stands_at, kept_more}
 use Rattle.ds_shape.specs.Accepted.{IsGood}
 
 module _ (e m : Module) (same : e ≡ m) (fs : List Function) (are : fs ≡ m.functions) (i : ℕ) (f : Function) (h : i < length fs) (is : f ≡ slice_index_or fs i f) where

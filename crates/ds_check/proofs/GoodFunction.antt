@@ -11,7 +11,7 @@ use Rattle.ds_shape.specs.Types.{Stands}
 use Rattle.ds_shape.specs.Placed.{Placed, placed_in, placed_from, placed_of, KeepsAssigned, GivesRegister}
 use Rattle.ds_shape.specs.Accepted.{IsGoodFunction}
 use Rattle.ds_check.specs.Fault.{KeepsAll, HasLabels}
-use Rattle.ds_check.proofs.Breach.{each_standing}
+use Rattle.ds_shape.specs.Breaches.{each_standing}
 
 -- THE FIRST INSTRUCTION
 

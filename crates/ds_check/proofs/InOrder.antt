@@ -15,7 +15,7 @@ use Rattle.ds_check.specs.declared.instr.Rule.TheVariants.{Defined, Typed, GoodP
 use Rattle.ds_check.specs.Fault.{KeepsAll}
 use Rattle.ds_check.specs.Instr.{IsBroken}
 use Rattle.ds_check.specs.Broken.{IsFirstBroken}
-use Rattle.ds_check.proofs.Breach.{breach_at, kept_more}
+use Rattle.ds_shape.specs.Breaches.{breach_at, kept_more}
 
 -- a list that is long enough has an item at the place
 pub item_at : {X : Type 0} (xs : List X) (i : ℕ) → i < length xs → X

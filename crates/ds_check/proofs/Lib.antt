@@ -1,5 +1,4 @@
 pub mod Signature
-pub mod Breach
 pub mod Main
 pub mod KeptNames
 pub mod Downward

@@ -4,7 +4,7 @@ use Rattle.ds_ast.specs.declared.module.Module.{Module}
 use Rattle.ds_ast.specs.declared.module.Function.{Function}
 use Rattle.ds_shape.specs.Types.{Stands}
 use Rattle.ds_shape.specs.Accepted.{HasMain, IsMain}
-use Rattle.ds_check.proofs.Breach.{stands_at, each_standing}
+use Rattle.ds_shape.specs.Breaches.{stands_at, each_standing}
 
 pub found : (m : Module) (fs : List Function) (i : ℕ) (f : Function) → fs ≡ m.functions → i < length fs → f ≡ slice_index_or fs i f → IsMain f → IsTrue true ↔ HasMain m
 found m fs i f same h is main = (λ t. (f, subst (Stands f) same (stands_at fs i f h is), main), λ has. refl)

@@ -12,7 +12,7 @@ use Rattle.ds_check.specs.declared.fault.TypeFault.{TypeFault}
 use Rattle.ds_check.specs.declared.fault.TypeFault.TheVariants.{Twice, TooMany, BadExternal, TwiceLocal, BadBlock, Undefined, WrongType, BadPhi, NotDominating, NoMain, Memory}
 use Rattle.ds_check.specs.Fault.{HasFew, count_kinds, KeepsAll, BreaksNext, HasFunctionFault, HasFirstFunctionFault, IsFirstExternal, WrongGlobal, HasExternals, HasGlobals}
 use Rattle.ds_check.specs.Laws.{AcceptedAreNotRefused}
-use Rattle.ds_check.proofs.Breach.{each_standing}
+use Rattle.ds_shape.specs.Breaches.{each_standing}
 use Rattle.ds_check.proofs.GoodFunction.{good_labels, good_keeps, good_paths}
 use Rattle.ds_check.proofs.WholeModule.{accepted_counts, accepted_externals, accepted_globals}
 

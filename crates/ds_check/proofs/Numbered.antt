@@ -12,7 +12,7 @@ use Rattle.ds_ast.specs.declared.module.Block.{Block}
 use Rattle.ds_ast.specs.Bounds.{Bounds, IsFunction, IsEnded}
 use Rattle.ds_shape.specs.Types.{Stands, instructions_of}
 use Rattle.ds_shape.specs.Placed.{Placed, placed_in, placed_from, placed_of}
-use Rattle.ds_check.proofs.Breach.{each_standing}
+use Rattle.ds_shape.specs.Breaches.{each_standing}
 
 many_in : (n : ℕ) (b : Block) (front code : List Instr) → length (placed_in n b front code) ≡ length code
 many_in n b front [] = refl

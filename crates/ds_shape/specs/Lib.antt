@@ -4,6 +4,7 @@ pub mod Externals
 pub mod Operands
 pub mod Types
 pub mod Flow
+pub mod Breaches
 pub mod Accepted
 pub mod Laws
 pub mod Fault

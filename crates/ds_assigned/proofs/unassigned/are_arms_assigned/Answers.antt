@@ -1,7 +1,7 @@
 use Rattle.std.proofs.Common.{sym, ◌∙◌, true≢false}
 use Rattle.ds_shape.specs.Placed.{IsAssignedArm}
 use Rattle.ds_shape.specs.Flow.{arms_of}
-use Rattle.ds_assigned.proofs.Breach.{item_breaks, item_kept, items_kept}
+use Rattle.ds_shape.specs.Breaches.{item_breaks, item_kept, items_kept}
 use Rattle.ds_assigned.proofs.unassigned.are_arms_assigned.Goals as goal
 
 pub returns-then-not-branch : goal.returns-then-not-branch

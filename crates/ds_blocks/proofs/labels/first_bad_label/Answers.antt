@@ -3,7 +3,7 @@ use Rattle.std.specs.Prelude.{All}
 use Rattle.ds_ast.specs.declared.module.Function.{Function}
 use Rattle.ds_shape.specs.Placed.{placed_of, KeepsTargets, IsTarget}
 use Rattle.ds_shape.specs.Flow.{targets_of}
-use Rattle.ds_blocks.proofs.Breach.{kept_all}
+use Rattle.ds_shape.specs.Breaches.{kept_all}
 use Rattle.ds_blocks.proofs.Branched.{breaks_at, keeps_at}
 use Rattle.ds_blocks.proofs.labels.first_bad_label.Goals as goal
 

@@ -2,7 +2,7 @@ use Rattle.std.proofs.Common.{◌≤◌, length, sym, refl, subst, true≢false,
 use Rattle.std.proofs.lemmas.Option.{slice_get_within}
 use Rattle.ds_shape.specs.Flow.{targets_of}
 use Rattle.ds_shape.specs.Placed.{IsTarget}
-use Rattle.ds_blocks.proofs.Breach.{kept_more, kept_all, each_standing}
+use Rattle.ds_shape.specs.Breaches.{kept_more, kept_all, each_standing}
 use Rattle.ds_blocks.proofs.Standing.{item_at, stands_at}
 use Rattle.ds_blocks.proofs.labels.keeps_targets.Goals as goal
 

@@ -2,7 +2,7 @@ use Rattle.std.proofs.Common.{sym, ◌∙◌, subst, true≢false}
 use Rattle.ds_ast.specs.declared.module.Module.{Module}
 use Rattle.ds_ast.specs.declared.module.GlobalDef.{GlobalDef}
 use Rattle.ds_shape.specs.Types.{IsInitial}
-use Rattle.ds_check.proofs.Breach.{item_breaks, item_kept, items_kept}
+use Rattle.ds_shape.specs.Breaches.{item_breaks, item_kept, items_kept}
 use Rattle.ds_check.proofs.bodies.are_globals_initial.Goals as goal
 
 pub returns-then-not-is_initial : goal.returns-then-not-is_initial

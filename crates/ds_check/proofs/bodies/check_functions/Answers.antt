@@ -1,7 +1,7 @@
 use Rattle.std.proofs.Common.{◌≤◌, List, length, subst, inl, inr}
 use Rattle.ds_ast.specs.declared.module.Function.{Function}
 use Rattle.ds_shape.specs.Accepted.{IsGood}
-use Rattle.ds_check.proofs.Breach.{kept_all}
+use Rattle.ds_shape.specs.Breaches.{kept_all}
 use Rattle.ds_check.proofs.FunctionsInOrder.{function_stands, first_fault, one_more_good}
 use Rattle.ds_check.proofs.bodies.check_functions.Goals as goal
 

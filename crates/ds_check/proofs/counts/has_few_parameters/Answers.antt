@@ -1,6 +1,6 @@
 use Rattle.std.proofs.Common.{◌≡◌, ◌<◌, ◌≤◌, length, slice_index_or, refl, ap, ◌∙◌, subst, arith}
 use Rattle.ds_ast.specs.declared.module.Function.{Function}
-use Rattle.ds_check.proofs.Breach.{kept_more, kept_all}
+use Rattle.ds_shape.specs.Breaches.{kept_more, kept_all}
 use Rattle.ds_check.proofs.counts.has_few_parameters.Goals as goal
 
 pub loop-f-preserved : goal.loop-f-preserved

@@ -3,7 +3,7 @@ use Rattle.ds_ast.specs.declared.module.Function.{Function}
 use Rattle.ds_shape.specs.Placed.{placed_of}
 use Rattle.ds_check.specs.Fault.{KeepsAll}
 use Rattle.ds_check.specs.Instr.{IsBroken}
-use Rattle.ds_check.proofs.Breach.{kept_all}
+use Rattle.ds_shape.specs.Breaches.{kept_all}
 use Rattle.ds_check.proofs.Numbered.{numbered}
 use Rattle.ds_check.proofs.InOrder.{first_that_breaks, one_more_keeps}
 use Rattle.ds_check.proofs.instructions.first_broken_instruction.Goals as goal

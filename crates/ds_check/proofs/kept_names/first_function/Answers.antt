@@ -1,6 +1,6 @@
 use Rattle.std.proofs.Common.{sym, true≢false, ◌∙◌}
 use Rattle.ds_shape.specs.Accepted.{IsGoodExternal}
-use Rattle.ds_check.proofs.Breach.{breach_at, kept_all, kept_more}
+use Rattle.ds_shape.specs.Breaches.{breach_at, kept_all, kept_more}
 use Rattle.ds_check.proofs.kept_names.first_function.Goals as goal
 
 -- src/kept_names.rt:41:13

@@ -1,5 +1,5 @@
 use Rattle.ds_shape.specs.Accepted.{IsFreeGlobal}
-use Rattle.ds_check.proofs.Breach.{breach_at, kept_all}
+use Rattle.ds_shape.specs.Breaches.{breach_at, kept_all}
 use Rattle.ds_check.proofs.kept_names.first_global.Goals as goal
 
 -- src/kept_names.rt:28:13

@@ -2,7 +2,7 @@ use Rattle.std.proofs.Common.{sym, ◌∙◌, true≢false}
 use Rattle.ds_ast.specs.declared.operand.Arm.{Arm}
 use Rattle.ds_shape.specs.Placed.{IsDefined}
 use Rattle.ds_shape.specs.Flow.{arms_of}
-use Rattle.ds_check.proofs.Breach.{item_breaks, item_kept, items_kept}
+use Rattle.ds_shape.specs.Breaches.{item_breaks, item_kept, items_kept}
 use Rattle.ds_check.proofs.operands.are_arms_defined.Goals as goal
 
 pub returns-then-not-is_defined : goal.returns-then-not-is_defined
