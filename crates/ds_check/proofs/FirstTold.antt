@@ -10,13 +10,15 @@ use Rattle.ds_check.proofs.NoFault.{never_refused}
 use Rattle.ds_check.proofs.OneFault.{one_fault}
 
 -- of an accepted module none but want of memory
-pub only_memory : (m : Module) (r : Result (Unit {0}) TypeFault) → IfErr r (λ fault. (fault ≡ Memory) ⊎ HasTypeFault m fault) → Accepted m → IfErr r (λ fault. fault ≡ Memory)
+pub only_memory : (m : Module) (r : Result (Unit {0}) TypeFault)
+    → IfErr r (λ fault. (fault ≡ Memory) ⊎ HasTypeFault m fault) → Accepted m → IfErr r (λ fault. fault ≡ Memory)
 only_memory m (Ok u) refused is = refused
 only_memory m (Err fault) (inl memory) is = memory
 only_memory m (Err fault) (inr has) is = absurd (never_refused m fault is has)
 
 -- of another its first fault, or want of memory
-pub first_told : (m : Module) (r : Result (Unit {0}) TypeFault) (fault : TypeFault) → IfOk r (λ _. Accepted m) → IfErr r (λ fault. (fault ≡ Memory) ⊎ HasTypeFault m fault)
+pub first_told : (m : Module) (r : Result (Unit {0}) TypeFault) (fault : TypeFault) → IfOk r (λ _. Accepted m)
+    → IfErr r (λ fault. (fault ≡ Memory) ⊎ HasTypeFault m fault)
     → HasTypeFault m fault → (r ≡ Err fault) ⊎ (r ≡ Err Memory)
 first_told m (Ok u) fault is refused has = absurd (never_refused m fault is has)
 first_told m (Err told) fault none (inl memory) has = inr (ap Err memory)

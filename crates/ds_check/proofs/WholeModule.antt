@@ -9,7 +9,8 @@ use Rattle.ds_check.specs.declared.fault.CountKind.TheVariants.{Functions, Instr
 use Rattle.ds_check.specs.Fault.{HasFew, HasCounts, HasExternals, HasGlobals}
 
 -- where no step finds a fault, the module is accepted
-pub accepted : (m : Module) → Bounds m → HasLayout m → HasGlobals m → All (IsGood m) m.functions → HasMain m → Accepted m
+pub accepted : (m : Module) → Bounds m → HasLayout m → HasGlobals m → All (IsGood m) m.functions → HasMain m
+    → Accepted m
 accepted m bounds layout globals good main =
     let few = globals.externals.counts.few in
     let behind = All-tail (HasFew m) Functions (Instructions ∷ Params ∷ GlobalWords ∷ []) few in
@@ -45,7 +46,8 @@ accepted_counts m is =
     }
 
 pub accepted_externals : (m : Module) → Accepted m → HasExternals m
-accepted_externals m is = record { counts = accepted_counts m is; globals = is.free_globals; functions = is.no_bad_external }
+accepted_externals m is =
+    record { counts = accepted_counts m is; globals = is.free_globals; functions = is.no_bad_external }
 
 pub accepted_globals : (m : Module) → Accepted m → HasGlobals m
 accepted_globals m is = record { externals = accepted_externals m is; initial = is.well_formed.no_wrong_global }

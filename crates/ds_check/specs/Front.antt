@@ -1,4 +1,4 @@
--- The phis at the front of blocks.
+-- Helpers of the code, which no public clause cites: the phis at the front of blocks.
 use Rattle.std.specs.Prelude.{◌≡◌, ℕ, List, take, slice_get, Some, All}
 use Rattle.std.specs.List.{AllZip}
 use Rattle.ds_ast.specs.declared.instr.Instr.{Instr}

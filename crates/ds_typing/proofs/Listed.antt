@@ -16,8 +16,10 @@ module _ {X : Type 0} (P : X → Type 0) where
 
   by_images : {Y : Type 0} (f : Y → X) (ys : List Y) → All P (map f ys) → All (λ y. P (f y)) ys
   by_images f [] all = All-nil (λ y. P (f y))
-  by_images f (y ∷ ys) all = All-cons (λ y. P (f y)) y ys (All-head P (f y) (map f ys) all) (by_images f ys (All-tail P (f y) (map f ys) all))
+  by_images f (y ∷ ys) all =
+      All-cons (λ y. P (f y)) y ys (All-head P (f y) (map f ys) all) (by_images f ys (All-tail P (f y) (map f ys) all))
 
   -- items have it by way of their images
-  pub images : {Y : Type 0} (f : Y → X) (ys : List Y) (b : Bool) → (IsTrue b ↔ All (λ y. P (f y)) ys) → IsTrue b ↔ All P (map f ys)
+  pub images : {Y : Type 0} (f : Y → X) (ys : List Y) (b : Bool) → (IsTrue b ↔ All (λ y. P (f y)) ys)
+      → IsTrue b ↔ All P (map f ys)
   images f ys b fits = (λ t. All-map P f ys (fits.0 t), λ all. fits.1 (by_images f ys all))

@@ -7,7 +7,8 @@ pub loop-f-preserved : goal.loop-f-preserved
 loop-f-preserved c =
     let there : c.as_slice-f-items.result.now ≡ c.args.module.now.functions = c.as_slice-f-items.ensures in
     let few : length c.f-item.result.params ≤ c.args.limit = grind (arith, c.if-len-limit.false, c.len.ensures) in
-    kept_more (λ (f : Function). length f.params ≤ c.args.limit) c.args.module.now.functions c.loop-f.f-index c.f-item.result
+    kept_more (λ (f : Function). length f.params ≤ c.args.limit) c.args.module.now.functions c.loop-f.f-index
+    c.f-item.result
     (subst (λ fs. c.loop-f.f-index < length fs) there c.loop-f-test.true)
     (c.f-item.is ∙ ap (λ fs. slice_index_or fs c.loop-f.f-index c.f-item.result) there) c.loop-f.invariant few
 

@@ -8,13 +8,16 @@ use Rattle.ds_check.proofs.instr.first_broken.Goals as goal
 pub returns-then-not-branch-2 : goal.returns-then-not-branch-2
 returns-then-not-branch-2 c =
     phi_broken c.args.judge.now.entities.now c.args.judge.now.function.now c.args.op.now c.args.number c.args.site
-    (subst (λ (f : Function). All (IsDefined c.args.judge.now.entities.now f) (values_of c.args.op.now)) c.requires.locals (c.are_operands_defined.ensures.0 c.if-not-are_operands_defined.false))
+    (subst (λ (f : Function). All (IsDefined c.args.judge.now.entities.now f) (values_of c.args.op.now))
+    c.requires.locals (c.are_operands_defined.ensures.0 c.if-not-are_operands_defined.false))
     (c.in_ok-keeps_types.ensures.0 c.if-not-branch.false)
-    (λ n p site same kept. true≢false (sym ((c.in_ok-keeps_phi.ensures n p site same).1 kept) ∙ c.if-not-branch-2.true))
+    (λ n p site same kept. true≢false
+    (sym ((c.in_ok-keeps_phi.ensures n p site same).1 kept) ∙ c.if-not-branch-2.true))
 
 pub returns : goal.returns
 returns c =
     none_broken c.args.judge.now.entities.now c.args.judge.now.function.now c.args.op.now c.args.number c.args.site
-    (subst (λ (f : Function). All (IsDefined c.args.judge.now.entities.now f) (values_of c.args.op.now)) c.requires.locals (c.are_operands_defined.ensures.0 c.if-not-are_operands_defined.false))
+    (subst (λ (f : Function). All (IsDefined c.args.judge.now.entities.now f) (values_of c.args.op.now))
+    c.requires.locals (c.are_operands_defined.ensures.0 c.if-not-are_operands_defined.false))
     (c.in_ok-keeps_types.ensures.0 c.if-not-branch.false)
     (λ n p site same. (c.in_ok-keeps_phi.ensures n p site same).0 c.if-not-branch-2.false)

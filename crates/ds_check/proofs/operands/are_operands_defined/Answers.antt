@@ -7,5 +7,6 @@ use Rattle.ds_check.proofs.operands.are_operands_defined.Goals as goal
 
 pub returns : goal.returns
 returns c =
-    all_operands (IsDefined c.args.entities.now c.args.locals.now) (λ (a : Arm). a.value) (uses_of c.args.op.now) (arms_of c.args.op.now) c.are_arms_defined.result
+    all_operands (IsDefined c.args.entities.now c.args.locals.now) (λ (a : Arm). a.value) (uses_of c.args.op.now)
+    (arms_of c.args.op.now) c.are_arms_defined.result
     (c.are_uses_defined.ensures.0 c.if-not-are_uses_defined.false) c.are_arms_defined.ensures

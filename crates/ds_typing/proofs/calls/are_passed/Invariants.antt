@@ -7,4 +7,5 @@ use Rattle.ds_typing.proofs.calls.are_passed.Given as goal
 abbrev pub invariant-loop-i : goal.invariant-loop-i
 invariant-loop-i l =
     (k : ℕ) (d : Operand) (e : Param) → k < l.i
-    → IsArgument l.fn.entities l.fn.locals l.fn.function k (slice_index_or l.fn.arguments k d) (slice_index_or l.fn.params k e)
+    → IsArgument l.fn.entities l.fn.locals l.fn.function k (slice_index_or l.fn.arguments k d)
+    (slice_index_or l.fn.params k e)

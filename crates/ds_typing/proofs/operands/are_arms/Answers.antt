@@ -5,4 +5,5 @@ use Rattle.ds_typing.proofs.Listed.{images}
 use Rattle.ds_typing.proofs.operands.are_arms.Goals as goal
 
 pub returns : goal.returns
-returns c = images (IsTypedOperand c.args.entities.now c.args.locals.now) (λ (a : Arm). typed c.args.ty a.value) c.args.arms.now c.have_type.result c.have_type.ensures
+returns c = images (IsTypedOperand c.args.entities.now c.args.locals.now) (λ (a : Arm). typed c.args.ty a.value)
+    c.args.arms.now c.have_type.result c.have_type.ensures

@@ -6,7 +6,9 @@ use Rattle.ds_typing.proofs.operands.is_one.Goals as goal
 
 pub returns-then-not-has_type : goal.returns-then-not-has_type
 returns-then-not-has_type c =
-    not_first (IsTypedOperand c.args.entities.now c.args.locals.now) (typed c.args.ty c.args.value.now) ([]) (λ has. true≢false (sym (c.has_type.ensures.1 has) ∙ c.if-not-has_type.true))
+    not_first (IsTypedOperand c.args.entities.now c.args.locals.now) (typed c.args.ty c.args.value.now) ([])
+    (λ has. true≢false (sym (c.has_type.ensures.1 has) ∙ c.if-not-has_type.true))
 
 pub returns : goal.returns
-returns c = first_and (IsTypedOperand c.args.entities.now c.args.locals.now) (typed c.args.ty c.args.value.now) ([]) c.are_none.result (c.has_type.ensures.0 c.if-not-has_type.false) c.are_none.ensures
+returns c = first_and (IsTypedOperand c.args.entities.now c.args.locals.now) (typed c.args.ty c.args.value.now)
+    ([]) c.are_none.result (c.has_type.ensures.0 c.if-not-has_type.false) c.are_none.ensures
