@@ -41,7 +41,8 @@ pub fn instr_at<'a>(function: &'a Function, sites: &Sites, number: usize) -> &'a
     &block.code.as_slice()[site.index]
 }
 
-/// The number of the first instruction that names a label which is none of the function's blocks', or that of its entry.
+/// The number of the first instruction that names a label which is none of the function's blocks', or that of its
+/// entry.
 pub fn first_bad_label(function: &Function, sites: &Sites, locals: &Locals) -> Option<usize>
     requires sites { sites.now ≡ function.now }
     requires locals { locals.now ≡ function.now }

@@ -65,7 +65,8 @@ fn the_one<'a>(used: Used<'a>, n: usize) -> Option<Used<'a>>
 
 /// The value at a place behind a first one.
 fn behind<'a>(first: Used<'a>, operands: &'a [Operand], n: usize) -> Option<Used<'a>>
-    ensures { option_map value_of result ≡ slice_get (value_of first.entry ∷ map (λ (o : typed). o.value) operands.now) n }
+    ensures { option_map value_of result ≡ slice_get (value_of first.entry ∷ map
+        (λ (o : typed). o.value) operands.now) n }
 {
     if n == 0 {
         Some(first)
@@ -84,7 +85,8 @@ fn the_operand<'a>(operand: &'a Option<Operand>, n: usize) -> Option<Used<'a>>
     }
 }
 
-/// The value that an instruction uses at a place in the order of the text, from 0 on, without those of a phi, which are used at the ends of other blocks.
+/// The value that an instruction uses at a place in the order of the text, from 0 on, without those of a phi, which
+/// are used at the ends of other blocks.
 pub fn use_at(op: &Op, n: usize) -> Option<Used<'_>>
     ensures { option_map value_of result ≡ slice_get (uses_of op.now) n }
 {

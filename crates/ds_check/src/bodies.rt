@@ -43,7 +43,8 @@ fn check_one<'a>(
     requires stands { Stands function.now entities.now.functions }
     requires few { HasFew entities.now kinds.Instructions }
     ensures good { IfOk result (λ _. IsGood entities.now function.now) }
-    ensures refused { IfErr result (λ fault. (fault ≡ faults.Memory) ⊎ ((function.now.blocks ≡ [] → ⊥) × HasFunctionFault entities.now f function.now fault)) }
+    ensures refused { IfErr result (λ fault. (fault ≡ faults.Memory) ⊎ ((function.now.blocks ≡ [] → ⊥)
+        × HasFunctionFault entities.now f function.now fault)) }
 {
     if function.blocks.is_empty() {
         return Ok(());

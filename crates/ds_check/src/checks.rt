@@ -85,7 +85,8 @@ fn first_fault<'a>(alloc: Global, module: &'a Module, shapes: &Shapes<'a>) -> Re
     }
 }
 
-/// Whether a module that has a layout is accepted: `Ok` where it keeps all rules, and else its first fault. This takes time that grows by n log n with the
+/// Whether a module that has a layout is accepted: `Ok` where it keeps all rules, and else its first fault. This takes
+/// time that grows by n log n with the
 /// module. Without memory the fault is `Memory`, and for an accepted module no other comes.
 pub fn check<'a>(alloc: Global, module: &'a Module, shapes: &Shapes<'a>) -> Result<(), TypeFault>
     requires bounds { Bounds «module».now }
@@ -94,7 +95,8 @@ pub fn check<'a>(alloc: Global, module: &'a Module, shapes: &Shapes<'a>) -> Resu
     ensures accepted { IfOk result (λ _. Accepted «module».now) }
     ensures only { Accepted «module».now → IfErr result (λ fault. fault ≡ faults.Memory) }
     ensures refused { IfErr result (λ fault. (fault ≡ faults.Memory) ⊎ HasTypeFault «module».now fault) }
-    ensures first { (fault : TypeFault) → HasTypeFault «module».now fault → (result ≡ Err fault) ⊎ (result ≡ Err faults.Memory) }
+    ensures first { (fault : TypeFault) → HasTypeFault «module».now fault → (result ≡ Err fault)
+        ⊎ (result ≡ Err faults.Memory) }
 {
     first_fault(alloc, module, shapes)
 }

@@ -24,7 +24,8 @@ fn is_defined_use(entities: &Entities, locals: &Locals, used: Used<'_>) -> bool
 
 /// Whether the value that an instruction uses at a place is defined.
 fn is_defined_at(entities: &Entities, locals: &Locals, op: &Op, n: usize) -> bool
-    ensures { (v : value) → slice_get (uses_of op.now) n ≡ Some v → (IsTrue result ↔ IsDefined entities.now locals.now v) }
+    ensures { (v : value) → slice_get (uses_of op.now) n ≡ Some v → (IsTrue result
+        ↔ IsDefined entities.now locals.now v) }
 {
     match use_at(op, n) {
         Some(used) => is_defined_use(entities, locals, used),

@@ -1,9 +1,9 @@
 -- When a module is well formed, and when it is accepted. The fields of a record stand in the order in which the faults
 -- are looked for, one a fault.
 --
--- To be read in this order: Bounds of ds_ast, which a text keeps; Sizes and Written: the sizes of types; Types: values
--- and the rule of types of each instruction; Externals: the
--- functions that are declared; Flow: blocks and paths; Placed: the rules of one instruction; and this file.
+-- To be read in this order: Bounds of ds_ast, which the module of a text keeps; Sizes and Written: the sizes of types;
+-- Operands, Externals and Types: values, the functions that are declared, and the rule of types of each instruction;
+-- Flow: blocks and paths; Placed: the rules of one instruction; and this file.
 use Rattle.std.specs.Prelude.{◌≡◌, ℕ, ◌+◌, ◌/◌, ◌≤◌, ◌⊎◌, List, [], ◌∷◌, ◌++◌, length, map, flat_map, All, codes}
 use Rattle.ds_ast.specs.declared.name.Name.{Name}
 use Rattle.ds_ast.specs.declared.name.Name.TheVariants.{Number, Text}

@@ -168,7 +168,7 @@ module _ (m : Module) where
   Addresses t [] = Unit {0}
   Addresses t (i ∷ is) = Walks t is
 
-  -- the value is the name of such a function
+  -- the value is the name of a function that a thread runs
   abbrev pub IsThreadStart : Value → Type 0
   IsThreadStart (Int n) = ⊥
   IsThreadStart Null = ⊥
@@ -178,8 +178,7 @@ module _ (m : Module) where
 
 module _ (m : Module) (f : Function) where
   -- the value has the type: a number any integer, null that of addresses, undef any, a local that of its definition, a
-  -- global's name that of addresses; no
-  -- function's name is a value
+  -- global's name that of addresses; no function's name is a value
   abbrev pub HasType : Scalar → Value → Type 0
   HasType s (Int n) = IsInteger s
   HasType s Null = s ≡ Ptr

@@ -108,7 +108,8 @@ pub fn is_address<'a>(
     indices: &[Operand],
 ) -> bool
     requires { shapes.now ≡ entities.now.structs }
-    ensures { IsTrue result ↔ IsNoVoid ty.now × All (λ (o : operand). IsWide o.ty) indices.now × Addresses entities.now ty.now indices.now }
+    ensures { IsTrue result ↔ IsNoVoid ty.now × All (λ (o : operand). IsWide o.ty) indices.now
+        × Addresses entities.now ty.now indices.now }
 {
     if !is_no_void(ty) {
         return false;

@@ -27,7 +27,8 @@ fn takes_null(function: &Function, n: usize) -> bool
             || is_external(function, b"pthread_join".as_slice()))
 }
 
-/// Whether the argument behind so many others is the name of the function that a thread runs: the third of `pthread_create`.
+/// Whether the argument behind so many others is the name of the function that a thread runs: the third of
+/// `pthread_create`.
 fn takes_function(function: &Function, n: usize) -> bool
     ensures { IsTrue result ↔ TakesFunction function.now n }
 {
@@ -126,7 +127,8 @@ fn is_argument(
     argument: &Operand,
     param: &Param,
 ) -> bool
-    ensures { IsTrue result ↔ (argument.now.ty ≡ param.now.ty) × IsPassedAs entities.now locals.now function.now n argument.now }
+    ensures { IsTrue result ↔ (argument.now.ty ≡ param.now.ty)
+        × IsPassedAs entities.now locals.now function.now n argument.now }
 {
     argument.ty == param.ty && is_passed_as(entities, locals, function, n, argument)
 }

@@ -35,7 +35,8 @@ fn are_two(
     ty: Scalar,
     value: &Value,
 ) -> bool
-    ensures { IsTrue result ↔ All (IsTypedOperand entities.now locals.now) (typed first_type first.now ∷ typed ty value.now ∷ []) }
+    ensures { IsTrue result
+        ↔ All (IsTypedOperand entities.now locals.now) (typed first_type first.now ∷ typed ty value.now ∷ []) }
 {
     if !has_type(entities, locals, first_type, first) {
         return false;
@@ -53,7 +54,9 @@ fn are_three(
     a: &Value,
     b: &Value,
 ) -> bool
-    ensures { IsTrue result ↔ All (IsTypedOperand entities.now locals.now) (typed first_type first.now ∷ typed ty a.now ∷ typed ty b.now ∷ []) }
+    ensures { IsTrue result
+        ↔ All (IsTypedOperand entities.now locals.now) (typed first_type first.now ∷ typed ty a.now ∷ typed ty b.now ∷
+        []) }
 {
     if !has_type(entities, locals, first_type, first) {
         return false;
@@ -112,7 +115,8 @@ fn have_type(entities: &Entities, locals: &Locals, ty: Scalar, arms: &[Arm]) -> 
 
 /// Whether the values of all arms have their type.
 fn are_arms(entities: &Entities, locals: &Locals, ty: Scalar, arms: &[Arm]) -> bool
-    ensures { IsTrue result ↔ All (IsTypedOperand entities.now locals.now) (map (λ (a : arm). typed ty a.value) arms.now) }
+    ensures { IsTrue result ↔ All (IsTypedOperand entities.now locals.now) (map
+        (λ (a : arm). typed ty a.value) arms.now) }
 {
     have_type(entities, locals, ty, arms)
 }

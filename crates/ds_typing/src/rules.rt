@@ -6,7 +6,8 @@ ghost use Rattle.ds_ast.specs.declared.module.Module.{Module as whole};
 ghost use Rattle.ds_ast.specs.declared.ty.Scalar.TheVariants.{I1, Ptr};
 ghost use Rattle.ds_ast.specs.declared.words.RmwOp.TheVariants.{Xchg};
 ghost use Rattle.ds_ast.specs.declared.instr.Op.TheVariants.{Ret as ret};
-ghost use Rattle.ds_shape.specs.Types.{AreDistinctNumbers, IsBitwise, IsInteger, IsStored, IsTypedOp, IsWide, KeepsRule};
+ghost use Rattle.ds_shape.specs.Types.{AreDistinctNumbers, IsBitwise, IsInteger, IsStored, IsTypedOp, IsWide};
+ghost use Rattle.ds_shape.specs.Types.{KeepsRule};
 
 use crate::addresses::is_address;
 use crate::calls::is_typed_call;
@@ -67,7 +68,8 @@ fn is_return(function: &Function, value: &Option<Operand>) -> bool
 
 /// Whether a `switch` keeps its rule. An `Err` comes only where there is not enough memory.
 fn is_switch(alloc: Global, ty: Scalar, cases: &[(u64, Name)]) -> Result<bool, AllocError>
-    ensures { IfOk result (λ kept. IsTrue kept ↔ IsWide ty × AreDistinctNumbers (map (λ (c : ℕ × name). c.0) cases.now)) }
+    ensures { IfOk result (λ kept. IsTrue kept ↔ IsWide ty × AreDistinctNumbers (map (λ (c : ℕ
+        × name). c.0) cases.now)) }
 {
     if !is_wide(ty) {
         return Ok(false);
@@ -75,7 +77,8 @@ fn is_switch(alloc: Global, ty: Scalar, cases: &[(u64, Name)]) -> Result<bool, A
     are_distinct(alloc, cases)
 }
 
-/// Whether an instruction keeps its rule, beside that of its operands. An `Err` comes only where there is not enough memory.
+/// Whether an instruction keeps its rule, beside that of its operands. An `Err` comes only where there is not enough
+/// memory.
 fn keeps_rule<'a>(
     alloc: Global,
     entities: &Entities,
