@@ -1,4 +1,3 @@
-pub mod Breach
 pub mod Stands
 pub mod Numbers
 pub mod Assigned

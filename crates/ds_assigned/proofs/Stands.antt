@@ -1,5 +1,6 @@
 -- Items of lists, and their numbers.
-use Rattle.std.proofs.Common.{◌≡◌, ◌<◌, ℕ, zero, suc, List, [], ◌∷◌, ◌++◌, ◌⊎◌, inl, inr, length, take, Contains, Some, refl, sym, ap, ◌∙◌, subst, slice_get, arith}
+use Rattle.std.proofs.Common.{◌≡◌, ◌<◌, ℕ, zero, suc, List, [], ◌∷◌, ◌++◌, ◌⊎◌, inl, inr, length, take, Contains, Some}
+use Rattle.std.proofs.Common.{refl, sym, ap, ◌∙◌, subst, slice_get, arith}
 use Rattle.std.proofs.lemmas.List.Elements.{Contains-push_cases, Contains-append_right, Contains-append_cases}
 use Rattle.ds_shape.specs.Types.{Stands}
 
@@ -46,13 +47,16 @@ module _ {X : Type 0} where
   one_item xs i x y a b = let same : Some x ≡ Some y = sym a ∙ b in cc
 
   -- the first items
-  pub in_front : (n : ℕ) (xs : List X) (k : ℕ) (x : X) → slice_get (take n xs) k ≡ Some x → (k < n) × (slice_get xs k ≡ Some x)
+  pub in_front : (n : ℕ) (xs : List X) (k : ℕ) (x : X) → slice_get (take n xs) k ≡ Some x
+      → (k < n) × (slice_get xs k ≡ Some x)
   in_front zero xs k x e = absurd cc
   in_front (suc n) [] k x e = absurd cc
   in_front (suc n) (y ∷ xs) zero x e = (omega arith, e)
-  in_front (suc n) (y ∷ xs) (suc k) x e = let r : (k < n) × (slice_get xs k ≡ Some x) = in_front n xs k x e in (omega (arith, r.0), r.1)
+  in_front (suc n) (y ∷ xs) (suc k) x e =
+      let r : (k < n) × (slice_get xs k ≡ Some x) = in_front n xs k x e in (omega (arith, r.0), r.1)
 
-  pub to_front : (n : ℕ) (xs : List X) (k : ℕ) (x : X) → k < n → slice_get xs k ≡ Some x → slice_get (take n xs) k ≡ Some x
+  pub to_front : (n : ℕ) (xs : List X) (k : ℕ) (x : X) → k < n → slice_get xs k ≡ Some x
+      → slice_get (take n xs) k ≡ Some x
   to_front zero xs k x low e = absurd (omega (arith, low))
   to_front (suc n) [] k x low e = absurd cc
   to_front (suc n) (y ∷ xs) zero x low e = e
@@ -70,7 +74,8 @@ pub none_contained : (m : ℕ) → Contains {X = ℕ} [] m → ⊥
 none_contained m h = omega (arith, h.1)
 
 one_contained : (n m : ℕ) → Contains (n ∷ []) m → n ≡ m
-one_contained n m h = elim (Contains-push_cases [] n m h) [ inl none ↦ absurd (none_contained m none) | inr same ↦ same ]
+one_contained n m h =
+    elim (Contains-push_cases [] n m h) [ inl none ↦ absurd (none_contained m none) | inr same ↦ same ]
 
 pub contains_cases : (n m : ℕ) (ns : List ℕ) → Contains (n ∷ ns) m → (n ≡ m) ⊎ Contains ns m
 contains_cases n m ns h = elim (Contains-append_cases (n ∷ []) ns m h) as (λ _. (n ≡ m) ⊎ Contains ns m) [

@@ -1,14 +1,17 @@
 //! The first use of a value that is not assigned on every path to it.
-ghost use Rattle.std.specs.Prelude.{◌≡◌, ◌<◌, ◌^◌, ◌↔◌, ℕ, [], All, Some, length, slice_get, take, IfNone, IfOk, IfSome, IsTrue};
+ghost use Rattle.std.specs.Prelude.{◌≡◌, ◌<◌, ◌^◌, ◌↔◌, ℕ, [], All, Some, length, slice_get, take, IfNone, IfOk};
+ghost use Rattle.std.specs.Prelude.{IfSome, IsTrue};
 ghost use Rattle.ds_ast.specs.declared.module.Block.{Block as blocks};
 ghost use Rattle.ds_ast.specs.declared.value.Value.{Value as values};
 ghost use Rattle.ds_blocks.specs.Edges.{AreEdgesOf};
 ghost use Rattle.ds_blocks.specs.Sites.{IsSite};
 ghost use Rattle.ds_blocks.specs.Uses.{value_of};
 ghost use Rattle.ds_names.specs.Names.{AreDistinct};
-ghost use Rattle.ds_shape.specs.Accepted.{IsAssignedArm, IsAssignedUse, local_names};
-ghost use Rattle.ds_shape.specs.Flow.{arms_of, uses_of};
-ghost use Rattle.ds_shape.specs.Placed.{Placed as placed, BreaksFirst, KeepsAssigned, placed_of};
+ghost use Rattle.ds_shape.specs.Accepted.{local_names};
+ghost use Rattle.ds_shape.specs.Operands.{uses_of};
+ghost use Rattle.ds_shape.specs.Flow.{arms_of};
+ghost use Rattle.ds_shape.specs.Placed.{Placed as placed, BreaksFirst, KeepsAssigned, placed_of, IsAssignedArm};
+ghost use Rattle.ds_shape.specs.Placed.{IsAssignedUse};
 
 use crate::flow::Flow;
 use ds_ast::{Arm, Function, Op, Value};
@@ -20,7 +23,8 @@ use std::alloc::{AllocError, Global};
 /// Whether a value is assigned on every path to a place of a block.
 fn is_assigned_value(flow: &Flow<'_, '_>, value: &Value, place: Site) -> Result<bool, AllocError>
     requires { place.block < length flow.now.blocks }
-    ensures { IfOk result (λ answer. (c : blocks) → slice_get flow.now.blocks place.block ≡ Some c → (IsTrue answer ↔ IsAssignedUse flow.now c (take place.index c.code) value.now)) }
+    ensures { IfOk result (λ answer. (c : blocks) → slice_get flow.now.blocks place.block ≡ Some c → (IsTrue answer
+        ↔ IsAssignedUse flow.now c (take place.index c.code) value.now)) }
 {
     match value {
         Value::Int(_) => Ok(true),
@@ -34,7 +38,8 @@ fn is_assigned_value(flow: &Flow<'_, '_>, value: &Value, place: Site) -> Result<
 /// Whether a value that an instruction uses is assigned on every path to a place of a block.
 fn is_assigned_use(flow: &Flow<'_, '_>, used: Used<'_>, place: Site) -> Result<bool, AllocError>
     requires { place.block < length flow.now.blocks }
-    ensures { IfOk result (λ answer. (c : blocks) → slice_get flow.now.blocks place.block ≡ Some c → (IsTrue answer ↔ IsAssignedUse flow.now c (take place.index c.code) (value_of used.entry))) }
+    ensures { IfOk result (λ answer. (c : blocks) → slice_get flow.now.blocks place.block ≡ Some c → (IsTrue answer
+        ↔ IsAssignedUse flow.now c (take place.index c.code) (value_of used.entry))) }
 {
     match used {
         Used::Value(value) => is_assigned_value(flow, value, place),
@@ -46,7 +51,9 @@ fn is_assigned_use(flow: &Flow<'_, '_>, used: Used<'_>, place: Site) -> Result<b
 /// Whether the value that the instruction at a site uses at a place of its operands is assigned on every path to it.
 fn is_assigned_at(flow: &Flow<'_, '_>, op: &Op, n: usize, site: Site) -> Result<bool, AllocError>
     requires { site.block < length flow.now.blocks }
-    ensures { IfOk result (λ answer. (c : blocks) → slice_get flow.now.blocks site.block ≡ Some c → (v : values) → slice_get (uses_of op.now) n ≡ Some v → (IsTrue answer ↔ IsAssignedUse flow.now c (take site.index c.code) v)) }
+    ensures { IfOk result (λ answer. (c : blocks) → slice_get flow.now.blocks site.block ≡ Some c → (v : values)
+        → slice_get (uses_of op.now) n ≡ Some v → (IsTrue answer
+        ↔ IsAssignedUse flow.now c (take site.index c.code) v)) }
 {
     match use_at(op, n) {
         Some(used) => is_assigned_use(flow, used, site),
@@ -54,10 +61,12 @@ fn is_assigned_at(flow: &Flow<'_, '_>, op: &Op, n: usize, site: Site) -> Result<
     }
 }
 
-/// Whether all values that the instruction at a site uses are assigned on every path to it, but for those of a phi's arms.
+/// Whether all values that the instruction at a site uses are assigned on every path to it, but for those of a phi's
+/// arms.
 fn are_uses_assigned(flow: &Flow<'_, '_>, op: &Op, site: Site) -> Result<bool, AllocError>
     requires { site.block < length flow.now.blocks }
-    ensures { IfOk result (λ answer. (c : blocks) → slice_get flow.now.blocks site.block ≡ Some c → (IsTrue answer ↔ All (IsAssignedUse flow.now c (take site.index c.code)) (uses_of op.now))) }
+    ensures { IfOk result (λ answer. (c : blocks) → slice_get flow.now.blocks site.block ≡ Some c → (IsTrue answer
+        ↔ All (IsAssignedUse flow.now c (take site.index c.code)) (uses_of op.now))) }
 {
     for n in 0..use_count(op) {
         if !is_assigned_at(flow, op, n, site)? {
@@ -67,7 +76,8 @@ fn are_uses_assigned(flow: &Flow<'_, '_>, op: &Op, site: Site) -> Result<bool, A
     Ok(true)
 }
 
-/// Whether the value of a phi's arm is assigned on every path to the end of the block that the arm names. If no block has the name, it is.
+/// Whether the value of a phi's arm is assigned on every path to the end of the block that the arm names. If no block
+/// has the name, it is.
 fn is_assigned_arm(flow: &Flow<'_, '_>, arm: &Arm) -> Result<bool, AllocError>
     ensures { IfOk result (λ answer. IsTrue answer ↔ IsAssignedArm flow.now arm.now) }
 {
@@ -92,7 +102,8 @@ fn are_arms_assigned(flow: &Flow<'_, '_>, op: &Op) -> Result<bool, AllocError>
 /// Whether the instruction at a site keeps the rule.
 fn keeps_assigned(flow: &Flow<'_, '_>, site: Site) -> Result<bool, AllocError>
     requires { (n : ℕ) × (p : placed) × IsSite flow.now n site p }
-    ensures { IfOk result (λ answer. (n : ℕ) (p : placed) → IsSite flow.now n site p → (IsTrue answer ↔ KeepsAssigned flow.now p)) }
+    ensures { IfOk result (λ answer. (n : ℕ) (p : placed) → IsSite flow.now n site p → (IsTrue answer
+        ↔ KeepsAssigned flow.now p)) }
 {
     let op = flow.op(site);
     if !are_uses_assigned(flow, op, site)? {
@@ -103,8 +114,10 @@ fn keeps_assigned(flow: &Flow<'_, '_>, site: Site) -> Result<bool, AllocError>
 
 /// The number of the first instruction that uses a value which is not assigned on every path to it, if there is one.
 ///
-/// Instructions are numbered in the order of the text, from 0 on. A phi uses the value of an arm at the end of the block that the arm names. Uses in blocks to
-/// which no path leads are none. Takes O(n log n) for n blocks and uses. An `Err` comes only where there is not enough memory.
+/// Instructions are numbered in the order of the text, from 0 on. A phi uses the value of an arm at the end of the
+/// block that the arm names. Uses in blocks to
+/// which no path leads are none. Takes O(n log n) for n blocks and uses. An `Err` comes only where there is not enough
+/// memory.
 pub fn first_unassigned(
     alloc: Global,
     function: &Function,
@@ -117,7 +130,8 @@ pub fn first_unassigned(
     requires edges { AreEdgesOf function.now graph.now }
     requires some { function.now.blocks ≡ [] → ⊥ }
     requires few { length function.now.blocks < 2 ^ 32 }
-    ensures some { IfOk result (λ answer. IfSome answer (λ i. BreaksFirst (KeepsAssigned function.now) function.now i)) }
+    ensures some { IfOk result (λ answer. IfSome answer
+        (λ i. BreaksFirst (KeepsAssigned function.now) function.now i)) }
     ensures none { IfOk result (λ answer. IfNone answer (All (KeepsAssigned function.now) (placed_of function.now))) }
 {
     let flow = Flow::new(alloc, function, locals, graph)?;

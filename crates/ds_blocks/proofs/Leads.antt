@@ -1,5 +1,6 @@
 -- Rows of the blocks that instructions lead to.
-use Rattle.std.proofs.Common.{◌≡◌, ◌<◌, ◌≤◌, ◌+◌, ◌++◌, ℕ, List, [], ◌∷◌, ◌⊎◌, inl, inr, length, get_or, slice_get, Option, Some, None, refl, sym, ap, ◌∙◌, subst, arith}
+use Rattle.std.proofs.Common.{◌≡◌, ◌<◌, ◌≤◌, ◌+◌, ◌++◌, ℕ, List, [], ◌∷◌, ◌⊎◌, inl, inr, length, get_or, slice_get}
+use Rattle.std.proofs.Common.{Option, Some, None, refl, sym, ap, ◌∙◌, subst, arith}
 use Rattle.std.specs.Prelude.{◌↔◌, Contains}
 use Rattle.std.proofs.lemmas.List.Elements.{Contains-append_left, Contains-push, Contains-push_cases}
 use Rattle.std.proofs.lemmas.List.{length_push, get_or_push, get_or_append_left, get_or_past}
@@ -22,8 +23,12 @@ nothing_in b h = let lt = h.1 in absurd (omega (arith, lt))
 
 module _ (C P Q N : Type 0) (b : ℕ) (now : List ℕ) (before : Contains now b ↔ (C ⊎ P)) (more : Q ↔ (P ⊎ N)) where
   -- a label that is a block's
-  pub pushed : (block : ℕ) (new : List ℕ) → (◌≡◌ {A = Option ℕ} (Some block) (Some b) ↔ N) → new ≡ now ++ block ∷ [] → Contains new b ↔ (C ⊎ Q)
-  pushed block new named push = (λ h. there (Contains-push_cases now block b (subst (λ l. Contains l b) push h)), λ o. subst (λ l. Contains l b) (sym push) (back o))
+  pub pushed : (block : ℕ) (new : List ℕ) → (◌≡◌ {A = Option ℕ} (Some block) (Some b) ↔ N) → new ≡ now ++ block ∷ []
+      → Contains new b ↔ (C ⊎ Q)
+  pushed block new named push = (
+    λ h. there (Contains-push_cases now block b (subst (λ l. Contains l b) push h)),
+    λ o. subst (λ l. Contains l b) (sym push) (back o),
+  )
     where
       kept : C ⊎ P → C ⊎ Q
       kept (inl c) = inl c
@@ -35,7 +40,8 @@ module _ (C P Q N : Type 0) (b : ℕ) (now : List ℕ) (before : Contains now b 
 
       either : P ⊎ N → Contains (now ++ block ∷ []) b
       either (inl p) = Contains-append_left now (block ∷ []) b (before.1 (inr p))
-      either (inr n) = subst (λ k. Contains (now ++ block ∷ []) k) (some_is block b (named.1 n)) (Contains-push now block)
+      either (inr n) = subst (λ k. Contains (now ++ block ∷ []) k) (some_is block b (named.1 n))
+          (Contains-push now block)
 
       back : C ⊎ Q → Contains (now ++ block ∷ []) b
       back (inl c) = Contains-append_left now (block ∷ []) b (before.1 (inl c))
@@ -58,7 +64,8 @@ module _ (C P Q N : Type 0) (b : ℕ) (now : List ℕ) (before : Contains now b 
       back (inr q) = either (more.0 q)
 
 -- the labels of one instruction more
-pub further : (P Q N : Type 0) (b : ℕ) (now new : List ℕ) → Contains now b ↔ P → Q ↔ (P ⊎ N) → Contains new b ↔ (Contains now b ⊎ N) → Contains new b ↔ Q
+pub further : (P Q N : Type 0) (b : ℕ) (now new : List ℕ) → Contains now b ↔ P → Q ↔ (P ⊎ N)
+    → Contains new b ↔ (Contains now b ⊎ N) → Contains new b ↔ Q
 further P Q N b now new before more push = (λ h. there (push.0 h), λ q. push.1 (back (more.0 q)))
   where
     there : Contains now b ⊎ N → Q
@@ -99,26 +106,32 @@ through R P Q a b = (λ r. b.0 (a.0 r), λ q. a.1 (b.1 q))
 -- the rows of so many blocks
 pub record AreRows (f : Function) (n : ℕ) (edges : Edges) : Type 0 where
   pub many : length edges ≡ n
-  pub row : (a : ℕ) (from : Block) → a < n → slice_get f.blocks a ≡ Some from → (b : ℕ) → Contains (get_or edges a []) b ↔ LeadsFrom f b from.code
+  pub row : (a : ℕ) (from : Block) → a < n → slice_get f.blocks a ≡ Some from → (b : ℕ)
+      → Contains (get_or edges a []) b ↔ LeadsFrom f b from.code
 
 pub no_rows : (f : Function) (edges : Edges) → edges ≡ [] → AreRows f 0 edges
 no_rows f edges none = record { many = ap length none; row = λ a from h. absurd (omega (arith, h)) }
 
-pub row_more : (f : Function) (n : ℕ) (edges new : Edges) (row : List ℕ) (c : Block) → slice_get f.blocks n ≡ Some c → AreRows f n edges
+pub row_more : (f : Function) (n : ℕ) (edges new : Edges) (row : List ℕ) (c : Block) → slice_get f.blocks n ≡ Some c
+    → AreRows f n edges
     → ((b : ℕ) → Contains row b ↔ LeadsFrom f b c.code) → new ≡ edges ++ row ∷ [] → AreRows f (n + 1) new
 row_more f n edges new row c here before is push = record {
   many = ap length push ∙ length_push edges row ∙ ap (λ k. k + 1) before.many;
   row = λ a from h there. by_place a from h there (cases_eq a n);
 }
   where
-    by_place : (a : ℕ) (from : Block) → a < n + 1 → slice_get f.blocks a ≡ Some from → (a ≡ n) ⊎ ((a ≡ n) → ⊥) → (b : ℕ) → Contains (get_or new a []) b ↔ LeadsFrom f b from.code
+    by_place : (a : ℕ) (from : Block) → a < n + 1 → slice_get f.blocks a ≡ Some from → (a ≡ n) ⊎ ((a ≡ n) → ⊥)
+        → (b : ℕ) → Contains (get_or new a []) b ↔ LeadsFrom f b from.code
     by_place a from h there (inl e) b =
         let same : c ≡ from = some_is c from (sym here ∙ ap (slice_get f.blocks) (sym e) ∙ there) in
-        let at : get_or new a [] ≡ row = ap (λ l. get_or l a []) push ∙ get_or_push edges row [] a (before.many ∙ sym e) in
-        subst (λ (d : Block). Contains (get_or new a []) b ↔ LeadsFrom f b d.code) same (subst (λ l. Contains l b ↔ LeadsFrom f b c.code) (sym at) (is b))
+        let at : get_or new a [] ≡ row = ap (λ l. get_or l a []) push
+        ∙ get_or_push edges row [] a (before.many ∙ sym e) in
+        subst (λ (d : Block). Contains (get_or new a []) b ↔ LeadsFrom f b d.code) same
+        (subst (λ l. Contains l b ↔ LeadsFrom f b c.code) (sym at) (is b))
     by_place a from h there (inr other) b =
         let inside : a < n = omega (arith, h, other) in
-        let at : get_or new a [] ≡ get_or edges a [] = ap (λ l. get_or l a []) push ∙ get_or_append_left edges (row ∷ []) [] a (subst (λ k. a < k) (sym before.many) inside) in
+        let at : get_or new a [] ≡ get_or edges a [] = ap (λ l. get_or l a []) push
+        ∙ get_or_append_left edges (row ∷ []) [] a (subst (λ k. a < k) (sym before.many) inside) in
         subst (λ l. Contains l b ↔ LeadsFrom f b from.code) (sym at) (before.row a from inside there b)
 
 -- a label is that of one of the function's blocks
@@ -137,8 +150,10 @@ edge_from edges a b h = by (cases_order a (length edges))
     by (inr (inl lt)) = lt
     by (inr (inr far)) = past (omega (arith, far))
 
-pub rows_are_edges : (f g : Function) (n : ℕ) (edges : Edges) → f ≡ g → n ≡ length f.blocks → AreRows f n edges → AreEdgesOf g edges
-rows_are_edges f g n edges same all rows = subst (λ h. AreEdgesOf h edges) same (record { many = rows.many ∙ all; closed = closed; edge = edge })
+pub rows_are_edges : (f g : Function) (n : ℕ) (edges : Edges) → f ≡ g → n ≡ length f.blocks → AreRows f n edges
+    → AreEdgesOf g edges
+rows_are_edges f g n edges same all rows =
+    subst (λ h. AreEdgesOf h edges) same (record { many = rows.many ∙ all; closed = closed; edge = edge })
   where
     closed : IsClosed edges
     closed a b h =
@@ -147,16 +162,23 @@ rows_are_edges f g n edges same all rows = subst (λ h. AreEdgesOf h edges) same
         let to : LeadsFrom f b c.0.code = (rows.row a c.0 lt c.1 b).0 h in
         subst (λ k. b < k) (sym (rows.many ∙ all)) (slice_get_within f.blocks b to.2.2.0 to.2.2.1)
 
-    edge : (a b : ℕ) (from to : Block) → slice_get f.blocks a ≡ Some from → slice_get f.blocks b ≡ Some to → HasEdge edges a b ↔ IsEdge f from to
+    edge : (a b : ℕ) (from to : Block) → slice_get f.blocks a ≡ Some from → slice_get f.blocks b ≡ Some to
+        → HasEdge edges a b ↔ IsEdge f from to
     edge a b from to here there =
-        let row : Contains (get_or edges a []) b ↔ LeadsFrom f b from.code = rows.row a from (subst (λ k. a < k) (sym all) (slice_get_within f.blocks a from here)) here b in
+        let row : Contains (get_or edges a []) b ↔ LeadsFrom f b from.code =
+        rows.row a from (subst (λ k. a < k) (sym all) (slice_get_within f.blocks a from here)) here b in
         (λ h. leads_edge (row.0 h), λ e. row.1 (edge_leads e))
       where
         leads_edge : LeadsFrom f b from.code → IsEdge f from to
         leads_edge l =
             let one : l.2.2.0 ≡ to = some_is l.2.2.0 to (sym l.2.2.1 ∙ there) in
-            let called : l.2.0 ≡ to.name = sym l.2.2.2 ∙ ap (λ (c : Block). c.name) one in
-            (stands_at f.blocks a from here, stands_at f.blocks b to there, l.0, l.1, subst (λ name. Stands name (targets_of l.0.op)) called l.2.1)
+            let called : l.2.0 ≡ to.name = sym l.2.2.2 ∙ ap (λ (c : Block). c.name) one in (
+              stands_at f.blocks a from here,
+              stands_at f.blocks b to there,
+              l.0,
+              l.1,
+              subst (λ name. Stands name (targets_of l.0.op)) called l.2.1,
+            )
 
         edge_leads : IsEdge f from to → LeadsFrom f b from.code
         edge_leads e = (e.2, e.3, (to.name, e.4, (to, there, refl)))

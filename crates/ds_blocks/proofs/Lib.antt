@@ -2,7 +2,6 @@ pub mod SitesOf
 pub mod Along
 pub mod Standing
 pub mod Leads
-pub mod Breach
 pub mod Branched
 pub mod Reversed
 pub mod Kept

@@ -1,5 +1,6 @@
 -- Whether an item of a list has a property, item by item, and items by their numbers.
-use Rattle.std.proofs.Common.{map, ◌≡◌, ◌<◌, ◌≤◌, ◌+◌, ◌++◌, ℕ, zero, suc, List, [], ◌∷◌, ◌⊎◌, inl, inr, length, take, slice_index_or, slice_get, Option, Some, refl, sym, ap, ◌∙◌, subst, arith}
+use Rattle.std.proofs.Common.{map, ◌≡◌, ◌<◌, ◌≤◌, ◌+◌, ◌++◌, ℕ, zero, suc, List, [], ◌∷◌, ◌⊎◌, inl, inr, length, take}
+use Rattle.std.proofs.Common.{slice_index_or, slice_get, Option, Some, refl, sym, ap, ◌∙◌, subst, arith}
 use Rattle.std.proofs.lemmas.List.{append_assoc, map-append, take_all, take_more}
 use Rattle.ds_shape.specs.Types.{Stands}
 
@@ -38,7 +39,8 @@ module _ {X : Type 0} where
   there_is (z ∷ xs) zero h = (z, refl)
   there_is (z ∷ xs) (suc i) h = there_is xs i (omega (arith, h))
 
-  before_or_last : (xs : List X) (x z : X) (i : ℕ) → slice_get (xs ++ x ∷ []) i ≡ Some z → (slice_get xs i ≡ Some z) ⊎ (x ≡ z)
+  before_or_last : (xs : List X) (x z : X) (i : ℕ) → slice_get (xs ++ x ∷ []) i ≡ Some z
+      → (slice_get xs i ≡ Some z) ⊎ (x ≡ z)
   before_or_last [] x z zero e = inr cc
   before_or_last [] x z (suc i) e = cc
   before_or_last (y ∷ xs) x z zero e = inl e
@@ -48,14 +50,16 @@ module _ {X : Type 0} where
   stands_more xs ys x s = (s.0, s.1 ++ ys, ap (λ l. l ++ ys) s.2 ∙ append_assoc s.0 (x ∷ s.1) ys)
 
   pub stands_last : (xs : List X) (x z : X) → Stands z (xs ++ x ∷ []) → Stands z xs ⊎ (x ≡ z)
-  stands_last xs x z s = let n : (i : ℕ) × (slice_get (xs ++ x ∷ []) i ≡ Some z) = number_of (xs ++ x ∷ []) z s in either n.0 (before_or_last xs x z n.0 n.1)
+  stands_last xs x z s = let n : (i : ℕ) × (slice_get (xs ++ x ∷ []) i ≡ Some z) = number_of (xs ++ x ∷ []) z s in
+      either n.0 (before_or_last xs x z n.0 n.1)
     where
       either : (i : ℕ) → (slice_get xs i ≡ Some z) ⊎ (x ≡ z) → Stands z xs ⊎ (x ≡ z)
       either i (inl e) = inl (stands_at xs i z e)
       either i (inr e) = inr e
 
   pub none_first : (xs : List X) (x : X) → Stands x (take 0 xs) → ⊥
-  none_first xs x s = let n : (i : ℕ) × (slice_get (take 0 xs) i ≡ Some x) = number_of (take 0 xs) x s in nothing n.0 n.1
+  none_first xs x s =
+      let n : (i : ℕ) × (slice_get (take 0 xs) i ≡ Some x) = number_of (take 0 xs) x s in nothing n.0 n.1
     where
       nothing : (i : ℕ) → slice_get (take 0 xs) i ≡ Some x → ⊥
       nothing i e = cc
@@ -65,7 +69,9 @@ module _ {X : Type 0} where
     none_yet xs a = none_first xs a.0 a.1
 
     -- one item more
-    pub one_more : (xs : List X) (i : ℕ) (x : X) → i < length xs → x ≡ slice_index_or xs i x → (AnyIn P (take (i + 1) xs) → AnyIn P (take i xs) ⊎ P x) × (AnyIn P (take i xs) ⊎ P x → AnyIn P (take (i + 1) xs))
+    pub one_more : (xs : List X) (i : ℕ) (x : X) → i < length xs → x ≡ slice_index_or xs i x
+        → (AnyIn P (take (i + 1) xs) → AnyIn P (take i xs) ⊎ P x)
+        × (AnyIn P (take i xs) ⊎ P x → AnyIn P (take (i + 1) xs))
     one_more xs i x h is = (λ a. split (subst (AnyIn P) next a), λ o. subst (AnyIn P) (sym next) (joined o))
       where
         next : take (i + 1) xs ≡ take i xs ++ x ∷ []
@@ -73,7 +79,8 @@ module _ {X : Type 0} where
 
         split : AnyIn P (take i xs ++ x ∷ []) → AnyIn P (take i xs) ⊎ P x
         split a =
-            let n : (k : ℕ) × (slice_get (take i xs ++ x ∷ []) k ≡ Some a.0) = number_of (take i xs ++ x ∷ []) a.0 a.1 in
+            let n : (k : ℕ) × (slice_get (take i xs ++ x ∷ []) k ≡ Some a.0) =
+            number_of (take i xs ++ x ∷ []) a.0 a.1 in
             either n.0 (before_or_last (take i xs) x a.0 n.0 n.1)
           where
             either : (k : ℕ) → (slice_get (take i xs) k ≡ Some a.0) ⊎ (x ≡ a.0) → AnyIn P (take i xs) ⊎ P x
@@ -85,7 +92,8 @@ module _ {X : Type 0} where
         joined (inr p) = (x, (take i xs, [], refl), p)
 
     -- all items
-    pub of_all : (xs : List X) (i : ℕ) → length xs ≤ i → (AnyIn P (take i xs) → AnyIn P xs) × (AnyIn P xs → AnyIn P (take i xs))
+    pub of_all : (xs : List X) (i : ℕ) → length xs ≤ i → (AnyIn P (take i xs) → AnyIn P xs)
+        × (AnyIn P xs → AnyIn P (take i xs))
     of_all xs i h = (subst (AnyIn P) (take_all i xs h), subst (AnyIn P) (sym (take_all i xs h)))
 
 -- MAPPED
@@ -93,12 +101,14 @@ module _ {X : Type 0} where
 pub stands_map : {A B : Type 0} (f : A → B) (xs : List A) (x : A) → Stands x xs → Stands (f x) (map f xs)
 stands_map f xs x s = (map f s.0, map f s.1, ap (map f) s.2 ∙ map-append f s.0 (x ∷ s.1))
 
-mapped_at : {A B : Type 0} (f : A → B) (xs : List A) (i : ℕ) (y : B) → slice_get (map f xs) i ≡ Some y → (x : A) × (slice_get xs i ≡ Some x) × (f x ≡ y)
+mapped_at : {A B : Type 0} (f : A → B) (xs : List A) (i : ℕ) (y : B) → slice_get (map f xs) i ≡ Some y
+    → (x : A) × (slice_get xs i ≡ Some x) × (f x ≡ y)
 mapped_at f [] i y e = cc
 mapped_at f (x ∷ xs) zero y e = (x, refl, cc)
 mapped_at f (x ∷ xs) (suc i) y e = mapped_at f xs i y e
 
-pub stands_mapped : {A B : Type 0} (f : A → B) (xs : List A) (y : B) → Stands y (map f xs) → (x : A) × Stands x xs × (f x ≡ y)
+pub stands_mapped : {A B : Type 0} (f : A → B) (xs : List A) (y : B) → Stands y (map f xs)
+    → (x : A) × Stands x xs × (f x ≡ y)
 stands_mapped f xs y s =
     let n : (i : ℕ) × (slice_get (map f xs) i ≡ Some y) = number_of (map f xs) y s in
     let m = mapped_at f xs n.0 y n.1 in

@@ -9,4 +9,5 @@ use Rattle.ds_shape.specs.Flow.{IsEdge}
 pub record AreEdgesOf (f : Function) (edges : Edges) : Type 0 where
   pub many : length edges ≡ length f.blocks
   pub closed : IsClosed edges
-  pub edge : (a b : ℕ) (from to : Block) → slice_get f.blocks a ≡ Some from → slice_get f.blocks b ≡ Some to → (HasEdge edges a b ↔ IsEdge f from to)
+  pub edge : (a b : ℕ) (from to : Block) → slice_get f.blocks a ≡ Some from → slice_get f.blocks b ≡ Some to
+      → (HasEdge edges a b ↔ IsEdge f from to)

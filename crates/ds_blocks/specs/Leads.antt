@@ -1,4 +1,4 @@
--- Where instructions lead, by the numbers of blocks.
+-- Helpers of the code, which no public clause cites: where instructions lead, by the numbers of blocks.
 use Rattle.std.specs.Prelude.{ℕ, List}
 use Rattle.ds_ast.specs.declared.name.Name.{Name}
 use Rattle.ds_ast.specs.declared.instr.Op.{Op}

@@ -12,7 +12,8 @@ use std::alloc::{AllocError, Global};
 /// Adds the numbers of the blocks that an instruction leads to.
 fn push_targets(row: &mut Vec<u32>, locals: &Locals, op: &Op) -> Result<(), AllocError>
     requires few { length locals.now.blocks < 2 ^ 32 }
-    ensures { OnOk result ((b : ℕ) → (Contains row.new.items b ↔ (Contains row.old.items b ⊎ LeadsBy locals.now b op.now))) }
+    ensures { OnOk result ((b : ℕ) → (Contains row.new.items b ↔ (Contains row.old.items b
+        ⊎ LeadsBy locals.now b op.now))) }
 {
     for number in 0..target_count(op) {
         if let Some(block) = locals.block(target(op, number)) {

@@ -1,8 +1,7 @@
 //! Labels that may not be branched to.
 ghost use Rattle.std.specs.Prelude.{◌≡◌, ◌<◌, ◌↔◌, IsTrue, IfSome, IfNone, All, length, slice_index_or};
-ghost use Rattle.ds_shape.specs.Accepted.{IsTarget};
 ghost use Rattle.ds_shape.specs.Flow.{targets_of};
-ghost use Rattle.ds_shape.specs.Placed.{Placed as placed, placed_of, BreaksFirst, KeepsTargets};
+ghost use Rattle.ds_shape.specs.Placed.{Placed as placed, placed_of, BreaksFirst, KeepsTargets, IsTarget};
 
 use crate::sites::Sites;
 use crate::targets::{target, target_count};
@@ -42,7 +41,8 @@ pub fn instr_at<'a>(function: &'a Function, sites: &Sites, number: usize) -> &'a
     &block.code.as_slice()[site.index]
 }
 
-/// The number of the first instruction that names a label which is none of the function's blocks', or that of its entry.
+/// The number of the first instruction that names a label which is none of the function's blocks', or that of its
+/// entry.
 pub fn first_bad_label(function: &Function, sites: &Sites, locals: &Locals) -> Option<usize>
     requires sites { sites.now ≡ function.now }
     requires locals { locals.now ≡ function.now }

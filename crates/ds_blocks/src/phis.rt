@@ -2,7 +2,7 @@
 ghost use Rattle.std.specs.Prelude.{◌≡◌, ◌<◌, ◌^◌, ◌↔◌, List, [], IsTrue, Some, All, length, slice_get, IfOk};
 ghost use Rattle.ds_ast.specs.declared.instr.Instr.{Instr as instr};
 ghost use Rattle.ds_ast.specs.declared.module.Block.{Block as one};
-ghost use Rattle.ds_shape.specs.Accepted.{IsPhi, IsGoodPhi};
+ghost use Rattle.ds_shape.specs.Placed.{IsPhi, IsGoodPhi};
 ghost use Rattle.ds_shape.specs.Flow.{arms_of};
 ghost use Rattle.ds_blocks.specs.Phis.{Keeps, AreKept, HasEach};
 ghost use Rattle.ds_blocks.specs.Predecessors.{ArePredecessorsOf};
@@ -21,7 +21,8 @@ pub fn is_phi(op: &Op) -> bool
     !arms(op).is_empty()
 }
 
-/// Keeps the value of an arm for its block, and answers whether its label is that of a predecessor, and the block has no
+/// Keeps the value of an arm for its block, and answers whether its label is that of a predecessor, and the block has
+/// no
 /// other value.
 fn keep<'a>(
     values: &mut BTreeMap<u32, &'a Value>,
@@ -79,7 +80,8 @@ fn has_each(values: &BTreeMap<u32, &Value>, predecessors: &BTreeSet<u32>) -> boo
     true
 }
 
-/// Whether a phi is a good one: it stands at the front of its block, its labels are those of the block's predecessors, and
+/// Whether a phi is a good one: it stands at the front of its block, its labels are those of the block's predecessors,
+/// and
 /// each of them has one value. The time is O(n log n) in its arms, however many predecessors there are.
 pub fn is_good_phi(
     alloc: Global,
@@ -94,7 +96,8 @@ pub fn is_good_phi(
     requires few { length function.now.blocks < 2 ^ 32 }
     requires predecessors { ArePredecessorsOf function.now predecessors.now }
     requires block { block < length function.now.blocks }
-    ensures { IfOk result (λ good. (c : one) (front : List instr) → slice_get function.now.blocks block ≡ Some c → (IsTrue behind_phis ↔ All IsPhi front) → (IsTrue good ↔ IsGoodPhi function.now c front op.now)) }
+    ensures { IfOk result (λ good. (c : one) (front : List instr) → slice_get function.now.blocks block ≡ Some c
+        → (IsTrue behind_phis ↔ All IsPhi front) → (IsTrue good ↔ IsGoodPhi function.now c front op.now)) }
 {
     if !behind_phis {
         return Ok(false);

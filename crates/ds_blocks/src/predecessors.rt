@@ -8,7 +8,8 @@ use std::alloc::{AllocError, Global};
 use std::collections::BTreeSet;
 use std::marker::Model;
 
-/// The blocks from which an edge leads to each block of a function. Contracts see, for each block from 0 on, the list of
+/// The blocks from which an edge leads to each block of a function. Contracts see, for each block from 0 on, the list
+/// of
 /// the numbers of those.
 #[derive(Drop)]
 pub struct Predecessors {

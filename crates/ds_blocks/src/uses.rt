@@ -1,7 +1,8 @@
 //! The values that an instruction uses.
 ghost use Rattle.std.specs.Prelude.{◌≡◌, [], ◌∷◌, suc, length, map, option_map, option_to_list, slice_get};
 ghost use Rattle.ds_ast.specs.declared.operand.Operand.{Operand as typed};
-ghost use Rattle.ds_shape.specs.Flow.{uses_of, arms_of};
+ghost use Rattle.ds_shape.specs.Operands.{uses_of};
+ghost use Rattle.ds_shape.specs.Flow.{arms_of};
 ghost use Rattle.ds_blocks.specs.Uses.{value_of};
 
 use ds_ast::{Arm, Name, Op, Operand, Value};
@@ -64,7 +65,8 @@ fn the_one<'a>(used: Used<'a>, n: usize) -> Option<Used<'a>>
 
 /// The value at a place behind a first one.
 fn behind<'a>(first: Used<'a>, operands: &'a [Operand], n: usize) -> Option<Used<'a>>
-    ensures { option_map value_of result ≡ slice_get (value_of first.entry ∷ map (λ (o : typed). o.value) operands.now) n }
+    ensures { option_map value_of result ≡ slice_get (value_of first.entry ∷ map
+        (λ (o : typed). o.value) operands.now) n }
 {
     if n == 0 {
         Some(first)
@@ -83,7 +85,8 @@ fn the_operand<'a>(operand: &'a Option<Operand>, n: usize) -> Option<Used<'a>>
     }
 }
 
-/// The value that an instruction uses at a place in the order of the text, from 0 on, without those of a phi, which are used at the ends of other blocks.
+/// The value that an instruction uses at a place in the order of the text, from 0 on, without those of a phi, which
+/// are used at the ends of other blocks.
 pub fn use_at(op: &Op, n: usize) -> Option<Used<'_>>
     ensures { option_map value_of result ≡ slice_get (uses_of op.now) n }
 {

@@ -1,5 +1,4 @@
 pub mod Signature
-pub mod Breach
 pub mod Main
 pub mod KeptNames
 pub mod Downward
@@ -17,3 +16,4 @@ pub mod Numbered
 pub mod FunctionFaults
 pub mod FunctionsInOrder
 pub mod Steps
+pub mod FirstTold

@@ -1,5 +1,6 @@
 -- A module has at most one first fault.
-use Rattle.std.proofs.Common.{◌≡◌, ◌++◌, ◌⊎◌, ℕ, suc, List, [], ◌∷◌, length, inl, inr, refl, sym, ap, ◌∙◌, subst, append_assoc}
+use Rattle.std.proofs.Common.{◌≡◌, ◌++◌, ◌⊎◌, ℕ, suc, List, [], ◌∷◌, length, inl, inr, refl, sym, ap, ◌∙◌, subst}
+use Rattle.std.proofs.Common.{append_assoc}
 use Rattle.std.specs.Prelude.{All, ◌^◌, ◌-◌}
 use Rattle.std.proofs.lemmas.List.Elements.{All-head, All-tail}
 use Rattle.ds_ast.specs.declared.name.Name.{Name}
@@ -9,52 +10,73 @@ use Rattle.ds_ast.specs.declared.module.Function.{Function}
 use Rattle.ds_names.specs.Names.{Among, AreDistinct, IsFirstTwice}
 use Rattle.ds_shape.specs.Written.{IsFirstBreach}
 use Rattle.ds_shape.specs.Placed.{Placed, placed_of, KeepsTargets, KeepsDefined, KeepsTypes, KeepsAssigned}
-use Rattle.ds_shape.specs.Accepted.{global_names, local_names}
+use Rattle.ds_shape.specs.Accepted.{global_names, local_names, IsFreeGlobal, IsGoodExternal, IsGood}
 use Rattle.ds_check.specs.declared.fault.CountKind.{CountKind}
 use Rattle.ds_check.specs.declared.fault.TypeFault.{TypeFault}
-use Rattle.ds_check.specs.declared.fault.TypeFault.TheVariants.{Twice, TooMany, BadExternal, TwiceLocal, BadBlock, Undefined, WrongType, BadPhi, NotDominating, NoMain, Memory}
-use Rattle.ds_check.specs.Fault.{limit_of, HasFew, count_kinds, IsFreeGlobal, IsGoodExternal, KeepsAll, HasLabels, HasFunctionFault, HasFirstFunctionFault, IsFirstExternal, HasTypeFault, HasCounts, HasExternals, HasGlobals, IsGood}
+use Rattle.ds_check.specs.declared.fault.TypeFault.TheVariants.{Twice, TooMany, BadExternal, TwiceLocal, BadBlock}
+use Rattle.ds_check.specs.declared.fault.TypeFault.TheVariants.{Undefined, WrongType, BadPhi, NotDominating, NoMain}
+use Rattle.ds_check.specs.declared.fault.TypeFault.TheVariants.{Memory}
+use Rattle.ds_check.specs.Fault.{limit_of, HasFew, count_kinds, KeepsAll, HasLabels, HasFunctionFault}
+use Rattle.ds_check.specs.Fault.{HasFirstFunctionFault, IsFirstExternal, HasTypeFault, HasCounts, HasExternals}
+use Rattle.ds_check.specs.Fault.{HasGlobals}
 use Rattle.ds_check.specs.Laws.{OneTypeFault}
-use Rattle.ds_check.proofs.GoodFunction.{nothing_behind}
 use Rattle.ds_check.proofs.NoFault.{never_breaks, not_twice, never_twice, good_has_none, none_has, never_external}
 
 -- FIRST ITEMS
 
+nothing_behind : {X : Type 0} (xs : List X) → xs ++ [] ≡ xs
+nothing_behind [] = refl
+nothing_behind (x ∷ xs) = ap (λ ys. x ∷ ys) (nothing_behind xs)
+
 -- what breaks a rule first stands at one place
-same_place : {X : Type 0} (Keeps : X → Type 0) (b c a d : List X) (x y : X) → b ++ x ∷ a ≡ c ++ y ∷ d → (Keeps x → ⊥) → (Keeps y → ⊥) → All Keeps b → All Keeps c
+same_place : {X : Type 0} (Keeps : X → Type 0) (b c a d : List X) (x y : X) → b ++ x ∷ a ≡ c ++ y ∷ d → (Keeps x → ⊥)
+    → (Keeps y → ⊥) → All Keeps b → All Keeps c
     → (length b ≡ length c) × (x ≡ y)
 same_place Keeps [] [] a d x y is p q kept also = let e : x ≡ y = cc in (refl, e)
-same_place Keeps [] (z ∷ c) a d x y is p q kept also = let e : z ≡ x = cc in absurd (p (subst Keeps e (All-head Keeps z c also)))
-same_place Keeps (z ∷ b) [] a d x y is p q kept also = let e : z ≡ y = cc in absurd (q (subst Keeps e (All-head Keeps z b kept)))
+same_place Keeps [] (z ∷ c) a d x y is p q kept also =
+    let e : z ≡ x = cc in absurd (p (subst Keeps e (All-head Keeps z c also)))
+same_place Keeps (z ∷ b) [] a d x y is p q kept also =
+    let e : z ≡ y = cc in absurd (q (subst Keeps e (All-head Keeps z b kept)))
 same_place Keeps (z ∷ b) (w ∷ c) a d x y is p q kept also =
     let e : b ++ x ∷ a ≡ c ++ y ∷ d = cc in
     let s = same_place Keeps b c a d x y e p q (All-tail Keeps z b kept) (All-tail Keeps w c also) in
     (ap suc s.0, s.1)
 
-same_breach : {X : Type 0} (Keeps : X → Type 0) (xs : List X) (x y : X) → IsFirstBreach Keeps xs x → IsFirstBreach Keeps xs y → x ≡ y
+same_breach : {X : Type 0} (Keeps : X → Type 0) (xs : List X) (x y : X) → IsFirstBreach Keeps xs x
+    → IsFirstBreach Keeps xs y → x ≡ y
 same_breach Keeps xs x y f g =
-    (same_place Keeps f.before g.before f.after g.after x y (sym f.split ∙ g.split) f.breaks g.breaks f.kept_before g.kept_before).1
+    (same_place Keeps f.before g.before f.after g.after x y (sym f.split ∙ g.split) f.breaks g.breaks f.kept_before
+    g.kept_before).1
 
-same_second : (seen b c a d : List Name) (x y : Name) → b ++ x ∷ a ≡ c ++ y ∷ d → Among x (seen ++ b) → Among y (seen ++ c) → AreDistinct (seen ++ b) → AreDistinct (seen ++ c) → x ≡ y
+same_second : (seen b c a d : List Name) (x y : Name) → b ++ x ∷ a ≡ c ++ y ∷ d → Among x (seen ++ b)
+    → Among y (seen ++ c) → AreDistinct (seen ++ b) → AreDistinct (seen ++ c) → x ≡ y
 same_second seen [] [] a d x y is p q distinct other = cc
 same_second seen [] (z ∷ c) a d x y is p q distinct other =
-    let e : x ≡ z = cc in absurd (not_twice seen c z other (subst (λ (n : Name). Among n seen) e (subst (Among x) (nothing_behind seen) p)))
+    let e : x ≡ z = cc in
+    absurd (not_twice seen c z other (subst (λ (n : Name). Among n seen) e (subst (Among x) (nothing_behind seen) p)))
 same_second seen (z ∷ b) [] a d x y is p q distinct other =
-    let e : y ≡ z = cc in absurd (not_twice seen b z distinct (subst (λ (n : Name). Among n seen) e (subst (Among y) (nothing_behind seen) q)))
+    let e : y ≡ z = cc in
+    absurd (not_twice seen b z distinct
+    (subst (λ (n : Name). Among n seen) e (subst (Among y) (nothing_behind seen) q)))
 same_second seen (z ∷ b) (w ∷ c) a d x y is p q distinct other =
     let e : b ++ x ∷ a ≡ c ++ y ∷ d = cc in
     let s : w ≡ z = cc in
     let l : seen ++ z ∷ b ≡ (seen ++ z ∷ []) ++ b = sym (append_assoc seen (z ∷ []) b) in
-    let r : seen ++ w ∷ c ≡ (seen ++ z ∷ []) ++ c = ap (λ (n : Name). seen ++ n ∷ c) s ∙ sym (append_assoc seen (z ∷ []) c) in
-    same_second (seen ++ z ∷ []) b c a d x y e (subst (Among x) l p) (subst (Among y) r q) (subst AreDistinct l distinct) (subst AreDistinct r other)
+    let r : seen ++ w ∷ c ≡ (seen ++ z ∷ []) ++ c = ap (λ (n : Name). seen ++ n ∷ c) s
+    ∙ sym (append_assoc seen (z ∷ []) c) in
+    same_second (seen ++ z ∷ []) b c a d x y e (subst (Among x) l p) (subst (Among y) r q)
+    (subst AreDistinct l distinct) (subst AreDistinct r other)
 
 same_twice : (names : List Name) (x y : Name) → IsFirstTwice names x → IsFirstTwice names y → x ≡ y
-same_twice names x y f g = same_second [] f.before g.before f.after g.after x y (sym f.split ∙ g.split) f.first_time g.first_time f.none_before g.none_before
+same_twice names x y f g = same_second [] f.before g.before f.after g.after x y (sym f.split ∙ g.split) f.first_time
+    g.first_time f.none_before g.none_before
 
 -- STEPS
 
--- Of one step of a search and those behind it at most one finds a fault: where the later find one, the step has found nothing.
-one_step : (Early Late : TypeFault → Type 0) (Past : Type 0) → ((f : TypeFault) → Early f → Past → ⊥) → ((f : TypeFault) → Late f → Past)
+-- Of one step of a search and those behind it at most one finds a fault: where the later find one, the step has found
+-- nothing.
+one_step : (Early Late : TypeFault → Type 0) (Past : Type 0) → ((f : TypeFault) → Early f → Past → ⊥)
+    → ((f : TypeFault) → Late f → Past)
     → ((f g : TypeFault) → Early f → Early g → f ≡ g) → ((f g : TypeFault) → Late f → Late g → f ≡ g)
     → (f g : TypeFault) → Early f ⊎ Late f → Early g ⊎ Late g → f ≡ g
 one_step Early Late Past stops past early late f g (inl x) (inl y) = early f g x y
@@ -83,14 +105,16 @@ module _ (m : Module) (n : ℕ) (f : Function) (p : Placed) where
 
   same_use : (x y : TypeFault) → AtUse x → AtUse y → x ≡ y
   same_use x y =
-      one_step AtTypes AtPhi (KeepsTypes m f p) (λ z at. at.2) (λ z at. at.2) (λ v w a b. a.0 ∙ sym b.0) (λ v w a b. a.0 ∙ sym b.0) x y
+      one_step AtTypes AtPhi (KeepsTypes m f p) (λ z at. at.2) (λ z at. at.2) (λ v w a b. a.0 ∙ sym b.0)
+      (λ v w a b. a.0 ∙ sym b.0) x y
 
   -- the faults of one instruction
   abbrev AtInstr : TypeFault → Type 0
   AtInstr fault = AtDefined fault ⊎ AtUse fault
 
   same_instr : (x y : TypeFault) → AtInstr x → AtInstr y → x ≡ y
-  same_instr x y = one_step AtDefined AtUse (KeepsDefined m f p) (λ z at. at.1) use_defined (λ v w a b. a.0 ∙ sym b.0) same_use x y
+  same_instr x y =
+      one_step AtDefined AtUse (KeepsDefined m f p) (λ z at. at.1) use_defined (λ v w a b. a.0 ∙ sym b.0) same_use x y
 
 -- FUNCTIONS
 
@@ -102,14 +126,16 @@ module _ (m : Module) (n : ℕ) (f : Function) where
   AtLocals fault = (name : Name) × (fault ≡ TwiceLocal n name) × IsFirstTwice (local_names f) name
 
   abbrev AtTargets : TypeFault → Type 0
-  AtTargets fault = (p : Placed) × (fault ≡ BadBlock n p.number) × AreDistinct (local_names f) × IsFirstBreach (KeepsTargets f) (placed_of f) p
+  AtTargets fault = (p : Placed) × (fault ≡ BadBlock n p.number) × AreDistinct (local_names f)
+      × IsFirstBreach (KeepsTargets f) (placed_of f) p
 
   abbrev AtInstrs : TypeFault → Type 0
   AtInstrs fault = (p : Placed) × HasLabels f × IsFirstBreach (KeepsAll m f) (placed_of f) p × AtInstr m n f p fault
 
   abbrev AtPaths : TypeFault → Type 0
   AtPaths fault =
-      (p : Placed) × (fault ≡ NotDominating n p.number) × HasLabels f × All (KeepsAll m f) (placed_of f) × IsFirstBreach (KeepsAssigned f) (placed_of f) p
+      (p : Placed) × (fault ≡ NotDominating n p.number) × HasLabels f × All (KeepsAll m f) (placed_of f)
+      × IsFirstBreach (KeepsAssigned f) (placed_of f) p
 
   abbrev BehindTargets : TypeFault → Type 0
   BehindTargets fault = AtInstrs fault ⊎ AtPaths fault
@@ -129,7 +155,9 @@ module _ (m : Module) (n : ℕ) (f : Function) where
   same_locals x y a b = a.1 ∙ ap (TwiceLocal n) (same_twice (local_names f) a.0 b.0 a.2 b.2) ∙ sym b.1
 
   same_targets : (x y : TypeFault) → AtTargets x → AtTargets y → x ≡ y
-  same_targets x y a b = a.1 ∙ ap (λ (p : Placed). BadBlock n p.number) (same_breach (KeepsTargets f) (placed_of f) a.0 b.0 a.3 b.3) ∙ sym b.1
+  same_targets x y a b =
+      a.1 ∙ ap (λ (p : Placed). BadBlock n p.number) (same_breach (KeepsTargets f) (placed_of f) a.0 b.0 a.3 b.3)
+      ∙ sym b.1
 
   same_instrs : (x y : TypeFault) → AtInstrs x → AtInstrs y → x ≡ y
   same_instrs x y a b =
@@ -137,31 +165,39 @@ module _ (m : Module) (n : ℕ) (f : Function) where
       same_instr m n f a.0 x y a.3 (subst (λ (p : Placed). AtInstr m n f p y) e b.3)
 
   same_paths : (x y : TypeFault) → AtPaths x → AtPaths y → x ≡ y
-  same_paths x y a b = a.1 ∙ ap (λ (p : Placed). NotDominating n p.number) (same_breach (KeepsAssigned f) (placed_of f) a.0 b.0 a.4 b.4) ∙ sym b.1
+  same_paths x y a b =
+      a.1 ∙ ap (λ (p : Placed). NotDominating n p.number) (same_breach (KeepsAssigned f) (placed_of f) a.0 b.0 a.4 b.4)
+      ∙ sym b.1
 
   same_behind_targets : (x y : TypeFault) → BehindTargets x → BehindTargets y → x ≡ y
   same_behind_targets x y =
-      one_step AtInstrs AtPaths (All (KeepsAll m f) (placed_of f)) (λ z at all. never_breaks (KeepsAll m f) (placed_of f) at.0 at.2 all) (λ z at. at.3) same_instrs same_paths x y
+      one_step AtInstrs AtPaths (All (KeepsAll m f) (placed_of f))
+      (λ z at all. never_breaks (KeepsAll m f) (placed_of f) at.0 at.2 all) (λ z at. at.3) same_instrs same_paths x y
 
   same_behind_locals : (x y : TypeFault) → BehindLocals x → BehindLocals y → x ≡ y
   same_behind_locals x y =
-      one_step AtTargets BehindTargets (HasLabels f) (λ z at labels. never_breaks (KeepsTargets f) (placed_of f) at.0 at.3 labels.no_bad_block) has_labels same_targets same_behind_targets x y
+      one_step AtTargets BehindTargets (HasLabels f)
+      (λ z at labels. never_breaks (KeepsTargets f) (placed_of f) at.0 at.3 labels.no_bad_block) has_labels
+      same_targets same_behind_targets x y
 
   same_in_function : (x y : TypeFault) → AtLocals x ⊎ BehindLocals x → AtLocals y ⊎ BehindLocals y → x ≡ y
   same_in_function x y =
-      one_step AtLocals BehindLocals (AreDistinct (local_names f)) (λ z at distinct. never_twice (local_names f) at.0 at.2 distinct) are_distinct same_locals same_behind_locals x y
+      one_step AtLocals BehindLocals (AreDistinct (local_names f))
+      (λ z at distinct. never_twice (local_names f) at.0 at.2 distinct) are_distinct same_locals same_behind_locals x y
 
   -- the step of the search that finds the fault
   step_in_function : (fault : TypeFault) → HasFunctionFault m n f fault → AtLocals fault ⊎ BehindLocals fault
   step_in_function (TwiceLocal g name) (e, twice) = inl (name, ap (λ k. TwiceLocal k name) e, twice)
-  step_in_function (BadBlock g i) (e, distinct, (p, first, at)) = inr (inl (p, two_numbers BadBlock g n i p.number e at, distinct, first))
+  step_in_function (BadBlock g i) (e, distinct, (p, first, at)) =
+      inr (inl (p, two_numbers BadBlock g n i p.number e at, distinct, first))
   step_in_function (Undefined g i) (e, labels, (p, first, keeps, breaks, at)) =
       inr (inr (inl (p, labels, first, inl (two_numbers Undefined g n i p.number e at, breaks))))
   step_in_function (WrongType g i) (e, labels, (p, first, keeps, breaks, at)) =
       inr (inr (inl (p, labels, first, inr (inl (two_numbers WrongType g n i p.number e at, keeps, breaks)))))
   step_in_function (BadPhi g i) (e, labels, (p, first, keeps, breaks, at)) =
       inr (inr (inl (p, labels, first, inr (inr (two_numbers BadPhi g n i p.number e at, keeps.0, keeps.1)))))
-  step_in_function (NotDominating g i) (e, labels, all, (p, first, at)) = inr (inr (inr (p, two_numbers NotDominating g n i p.number e at, labels, all, first)))
+  step_in_function (NotDominating g i) (e, labels, all, (p, first, at)) =
+      inr (inr (inr (p, two_numbers NotDominating g n i p.number e at, labels, all, first)))
   step_in_function (Twice name) has = absurd has
   step_in_function (TooMany what limit) has = absurd has
   step_in_function (BadExternal name) has = absurd has
@@ -178,15 +214,18 @@ same_first_fault m x y (before, f, after, split, good, some, has) (front, g, bac
     let ill : IsGood m g → ⊥ = λ is. good_has_none m (length front) g y (is also) holds in
     let e = same_place (IsGood m) before front after back f g (sym split ∙ at) bad ill good well in
     same_function_fault m (length before) f x y has
-    (subst (λ k. HasFunctionFault m k f y) (sym e.0) (subst (λ (h : Function). HasFunctionFault m (length front) h y) (sym e.1) holds))
+    (subst (λ k. HasFunctionFault m k f y) (sym e.0)
+    (subst (λ (h : Function). HasFunctionFault m (length front) h y) (sym e.1) holds))
 
 -- THE MODULE
 
 same_external : (m : Module) (x y : Name) → IsFirstExternal m x → IsFirstExternal m y → x ≡ y
 same_external m x y (inl (g, first, named)) (inl (h, second, called)) =
     named ∙ ap (λ (g : GlobalDef). g.name) (same_breach IsFreeGlobal m.globals g h first second) ∙ sym called
-same_external m x y (inl (g, first, named)) (inr (h, free, second, called)) = absurd (never_breaks IsFreeGlobal m.globals g first free)
-same_external m x y (inr (f, free, first, named)) (inl (h, second, called)) = absurd (never_breaks IsFreeGlobal m.globals h second free)
+same_external m x y (inl (g, first, named)) (inr (h, free, second, called)) =
+    absurd (never_breaks IsFreeGlobal m.globals g first free)
+same_external m x y (inr (f, free, first, named)) (inl (h, second, called)) =
+    absurd (never_breaks IsFreeGlobal m.globals h second free)
 same_external m x y (inr (f, free, first, named)) (inr (h, rest, second, called)) =
     named ∙ ap (λ (f : Function). f.name) (same_breach IsGoodExternal m.functions f h first second) ∙ sym called
 
@@ -195,7 +234,8 @@ module _ (m : Module) where
   AtNames fault = (name : Name) × (fault ≡ Twice name) × IsFirstTwice (global_names m) name
 
   abbrev AtCounts : TypeFault → Type 0
-  AtCounts fault = (what : CountKind) × (fault ≡ TooMany what (limit_of what)) × AreDistinct (global_names m) × IsFirstBreach (HasFew m) count_kinds what
+  AtCounts fault = (what : CountKind) × (fault ≡ TooMany what (limit_of what)) × AreDistinct (global_names m)
+      × IsFirstBreach (HasFew m) count_kinds what
 
   abbrev AtExternals : TypeFault → Type 0
   AtExternals fault = (name : Name) × (fault ≡ BadExternal name) × HasCounts m × IsFirstExternal m name
@@ -244,21 +284,26 @@ module _ (m : Module) where
 
   same_behind_externals : (x y : TypeFault) → BehindExternals x → BehindExternals y → x ≡ y
   same_behind_externals x y =
-      one_step AtGlobals BehindGlobals (HasGlobals m) (λ z at. at.2) past_globals (λ v w a b. a.0 ∙ sym b.0) same_behind_globals x y
+      one_step AtGlobals BehindGlobals (HasGlobals m) (λ z at. at.2) past_globals (λ v w a b. a.0 ∙ sym b.0)
+      same_behind_globals x y
 
   same_behind_counts : (x y : TypeFault) → BehindCounts x → BehindCounts y → x ≡ y
   same_behind_counts x y =
-      one_step AtExternals BehindExternals (HasExternals m) (λ z at externals. never_external m at.0 externals at.3) past_externals
+      one_step AtExternals BehindExternals (HasExternals m) (λ z at externals. never_external m at.0 externals at.3)
+      past_externals
       (λ v w a b. a.1 ∙ ap BadExternal (same_external m a.0 b.0 a.3 b.3) ∙ sym b.1) same_behind_externals x y
 
   same_behind_names : (x y : TypeFault) → BehindNames x → BehindNames y → x ≡ y
   same_behind_names x y =
-      one_step AtCounts BehindCounts (HasCounts m) (λ z at counts. never_breaks (HasFew m) count_kinds at.0 at.3 counts.few) past_counts
-      (λ v w a b. a.1 ∙ ap (λ what. TooMany what (limit_of what)) (same_breach (HasFew m) count_kinds a.0 b.0 a.3 b.3) ∙ sym b.1) same_behind_counts x y
+      one_step AtCounts BehindCounts (HasCounts m)
+      (λ z at counts. never_breaks (HasFew m) count_kinds at.0 at.3 counts.few) past_counts
+      (λ v w a b. a.1 ∙ ap (λ what. TooMany what (limit_of what)) (same_breach (HasFew m) count_kinds a.0 b.0 a.3 b.3)
+      ∙ sym b.1) same_behind_counts x y
 
   same_step : (x y : TypeFault) → AtNames x ⊎ BehindNames x → AtNames y ⊎ BehindNames y → x ≡ y
   same_step x y =
-      one_step AtNames BehindNames (AreDistinct (global_names m)) (λ z at distinct. never_twice (global_names m) at.0 at.2 distinct) past_names
+      one_step AtNames BehindNames (AreDistinct (global_names m))
+      (λ z at distinct. never_twice (global_names m) at.0 at.2 distinct) past_names
       (λ v w a b. a.1 ∙ ap Twice (same_twice (global_names m) a.0 b.0 a.2 b.2) ∙ sym b.1) same_behind_names x y
 
   in_functions : (fault : TypeFault) → AtFunctions fault → AtNames fault ⊎ BehindNames fault
@@ -270,7 +315,11 @@ module _ (m : Module) where
   step_of (TooMany what limit) has = inr (inl (what, ap (TooMany what) has.2, has.0, has.1))
   step_of (BadExternal name) has = inr (inr (inl (name, refl, has.0, has.1)))
   step_of (WrongType f i) (inl (externals, wrong, e, at)) =
-      inr (inr (inr (inl (two_numbers WrongType f (2 ^ 32 - 1) i (2 ^ 32 - 1) e at, externals, λ globals. wrong globals.initial))))
+      inr (inr (inr (inl (
+        two_numbers WrongType f (2 ^ 32 - 1) i (2 ^ 32 - 1) e at,
+        externals,
+        λ globals. wrong globals.initial,
+      ))))
   step_of (WrongType f i) (inr has) = in_functions (WrongType f i) has
   step_of (TwiceLocal f name) has = in_functions (TwiceLocal f name) has
   step_of (BadBlock f i) has = in_functions (BadBlock f i) has

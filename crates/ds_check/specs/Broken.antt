@@ -1,4 +1,5 @@
--- The first instruction of a function that breaks a rule of one instruction.
+-- Helpers of the code, which no public clause cites: the first instruction of a function that breaks a rule of one
+-- instruction.
 use Rattle.std.specs.Prelude.{◌≡◌, ℕ, Some}
 use Rattle.ds_ast.specs.declared.module.Module.{Module}
 use Rattle.ds_ast.specs.declared.module.Function.{Function}
@@ -14,7 +15,8 @@ use Rattle.ds_check.specs.declared.fault.TypeFault.TheVariants.{Undefined, Wrong
 
 -- all before it keep all rules but that of paths, and this is the first rule that it breaks
 abbrev pub IsFirstBroken : Module → Function → Broken → Type 0
-IsFirstBroken m f b = (p : Placed) × IsFirstBreach (KeepsAll m f) (placed_of f) p × IsBroken m f p (Some b.rule) × (b.number ≡ p.number)
+IsFirstBroken m f b =
+    (p : Placed) × IsFirstBreach (KeepsAll m f) (placed_of f) p × IsBroken m f p (Some b.rule) × (b.number ≡ p.number)
 
 -- the fault of a function of this number that breaks the rule at an instruction
 abbrev pub fault_at : ℕ → ℕ → Rule → TypeFault

@@ -1,4 +1,5 @@
--- What is known of one instruction, by the first rule that it breaks.
+-- Helpers of the code, which no public clause cites: what is known of one instruction, by the first rule that it
+-- breaks.
 use Rattle.std.specs.Prelude.{Option, Some, None}
 use Rattle.ds_ast.specs.declared.module.Module.{Module}
 use Rattle.ds_ast.specs.declared.module.Function.{Function}

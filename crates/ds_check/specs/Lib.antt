@@ -1,5 +1,4 @@
 pub mod Fault
-pub mod Main
 pub mod Downward
 pub mod Front
 pub mod Laws

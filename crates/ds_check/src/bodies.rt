@@ -3,7 +3,8 @@ ghost use Rattle.std.specs.Prelude.{◌≡◌, ◌↔◌, ◌⊎◌, [], All, If
 ghost use Rattle.ds_ast.specs.declared.module.GlobalDef.{GlobalDef as global};
 ghost use Rattle.ds_ast.specs.Bounds.{Bounds};
 ghost use Rattle.ds_shape.specs.Types.{IsInitial, Stands};
-ghost use Rattle.ds_check.specs.Fault.{HasFew, HasFirstFunctionFault, HasFunctionFault, IsGood};
+ghost use Rattle.ds_check.specs.Fault.{HasFew, HasFirstFunctionFault, HasFunctionFault};
+ghost use Rattle.ds_shape.specs.Accepted.{IsGood};
 ghost use Rattle.ds_check.specs.declared.fault.CountKind.TheVariants as kinds;
 ghost use Rattle.ds_check.specs.declared.fault.TypeFault.TheVariants as faults;
 
@@ -42,7 +43,8 @@ fn check_one<'a>(
     requires stands { Stands function.now entities.now.functions }
     requires few { HasFew entities.now kinds.Instructions }
     ensures good { IfOk result (λ _. IsGood entities.now function.now) }
-    ensures refused { IfErr result (λ fault. (fault ≡ faults.Memory) ⊎ ((function.now.blocks ≡ [] → ⊥) × HasFunctionFault entities.now f function.now fault)) }
+    ensures refused { IfErr result (λ fault. (fault ≡ faults.Memory) ⊎ ((function.now.blocks ≡ [] → ⊥)
+        × HasFunctionFault entities.now f function.now fault)) }
 {
     if function.blocks.is_empty() {
         return Ok(());

@@ -1,8 +1,8 @@
 //! Whether a module is accepted.
-ghost use Rattle.std.specs.Prelude.{◌≡◌, ◌⊎◌, All, IfErr, IfOk};
+ghost use Rattle.std.specs.Prelude.{◌≡◌, ◌⊎◌, All, Err, IfErr, IfOk};
 ghost use Rattle.ds_ast.specs.Bounds.{Bounds};
-ghost use Rattle.ds_shape.specs.Accepted.{Accepted, HasLayout, HasMain};
-ghost use Rattle.ds_check.specs.Fault.{HasExternals, HasGlobals, HasTypeFault, IsGood};
+ghost use Rattle.ds_shape.specs.Accepted.{Accepted, HasLayout, HasMain, IsGood};
+ghost use Rattle.ds_check.specs.Fault.{HasExternals, HasGlobals, HasTypeFault};
 ghost use Rattle.ds_check.specs.declared.fault.TypeFault.TheVariants as faults;
 
 use crate::bodies::{are_globals_initial, check_functions};
@@ -62,9 +62,8 @@ fn check_bodies<'a>(
     check_functions(alloc, entities, shapes, module)
 }
 
-/// Whether a module that has a layout is accepted: `Ok` where it keeps all rules, and else its first fault. This takes time that grows by n log n with the
-/// module. Without memory the fault is `Memory`.
-pub fn check<'a>(alloc: Global, module: &'a Module, shapes: &Shapes<'a>) -> Result<(), TypeFault>
+/// The first fault of a module that has a layout, if it is not accepted.
+fn first_fault<'a>(alloc: Global, module: &'a Module, shapes: &Shapes<'a>) -> Result<(), TypeFault>
     requires bounds { Bounds «module».now }
     requires layout { HasLayout «module».now }
     requires shapes { shapes.now ≡ «module».now.structs }
@@ -84,4 +83,20 @@ pub fn check<'a>(alloc: Global, module: &'a Module, shapes: &Shapes<'a>) -> Resu
     } else {
         Err(TypeFault::NoMain)
     }
+}
+
+/// Whether a module that has a layout is accepted: `Ok` where it keeps all rules, and else its first fault. This takes
+/// time that grows by n log n with the
+/// module. Without memory the fault is `Memory`, and for an accepted module no other comes.
+pub fn check<'a>(alloc: Global, module: &'a Module, shapes: &Shapes<'a>) -> Result<(), TypeFault>
+    requires bounds { Bounds «module».now }
+    requires layout { HasLayout «module».now }
+    requires shapes { shapes.now ≡ «module».now.structs }
+    ensures accepted { IfOk result (λ _. Accepted «module».now) }
+    ensures only { Accepted «module».now → IfErr result (λ fault. fault ≡ faults.Memory) }
+    ensures refused { IfErr result (λ fault. (fault ≡ faults.Memory) ⊎ HasTypeFault «module».now fault) }
+    ensures first { (fault : TypeFault) → HasTypeFault «module».now fault → (result ≡ Err fault)
+        ⊎ (result ≡ Err faults.Memory) }
+{
+    first_fault(alloc, module, shapes)
 }

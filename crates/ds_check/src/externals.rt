@@ -1,20 +1,11 @@
 //! Which functions may be declared, and which names are kept.
 ghost use Rattle.std.specs.Prelude.{◌≡◌, ◌↔◌, IsTrue, map};
 ghost use Rattle.ds_ast.specs.declared.module.Param.{Param as param};
-ghost use Rattle.ds_shape.specs.Types.{IsCalled};
-ghost use Rattle.ds_shape.specs.Accepted.{parameter_types, HasSignature, IsKnownExternal, IsReserved};
+ghost use Rattle.ds_shape.specs.Externals.{parameter_types, signature, HasOneOf, HasSignature, externals};
+ghost use Rattle.ds_shape.specs.Accepted.{IsReserved};
 
 use ds_ast::{Function, Name, Param, Scalar, Ty};
-
-/// Whether a name is this text.
-pub fn is_called(name: &Name, text: &[u8]) -> bool
-    ensures { IsTrue result ↔ IsCalled text.now name.now }
-{
-    match name {
-        Name::Number(_) => false,
-        Name::Text(bytes) => bytes.as_slice() == text,
-    }
-}
+use ds_scope::is_called;
 
 /// Whether parameters have these types.
 fn have_types(params: &[Param], types: &[Scalar]) -> bool
@@ -39,7 +30,7 @@ pub fn takes(f: &Function, types: &[Scalar]) -> bool
 /// Whether a function has this name and this type.
 #[tactic(auto, using(crate::proofs::Signature::fits, crate::proofs::Signature::other_name, crate::proofs::Signature::other_result))]
 fn has_signature(f: &Function, name: &[u8], gives: &Ty, types: &[Scalar]) -> bool
-    ensures { IsTrue result ↔ HasSignature f.now name.now gives.now types.now }
+    ensures { IsTrue result ↔ HasSignature f.now (signature name.now gives.now types.now) }
 {
     if !is_called(&f.name, name) {
         return false;
@@ -50,9 +41,9 @@ fn has_signature(f: &Function, name: &[u8], gives: &Ty, types: &[Scalar]) -> boo
     false
 }
 
-/// Whether a function is one of those that may be declared, with its type.
+/// Whether a function is one of the externals, with its type.
 pub fn is_known_external(f: &Function) -> bool
-    ensures { IsTrue result ↔ IsKnownExternal f.now }
+    ensures { IsTrue result ↔ HasOneOf externals f.now }
 {
     let void = Ty::Void;
     let number = Ty::One(Scalar::I32);

@@ -18,9 +18,12 @@ pub enum CountKind {
     GlobalWords,
 }
 
-/// Why a module is not accepted. `f` is the number of a function among all functions of the module, `i` that of an instruction in its function, both in the
-/// order of the text and from 0 on. Of the faults that a module has, the first is told, as the variants stand here; but a wrong initialiser comes behind
-/// `BadExternal` and before the faults of functions, those of one function come before those of the next, and `Undefined`, `WrongType` and `BadPhi` of one
+/// Why a module is not accepted. `f` is the number of a function among all functions of the module, `i` that of an
+/// instruction in its function, both in the
+/// order of the text and from 0 on. Of the faults that a module has, the first is told, as the variants stand here;
+/// but a wrong initialiser comes behind
+/// `BadExternal` and before the faults of functions, those of one function come before those of the next, and
+/// `Undefined`, `WrongType` and `BadPhi` of one
 /// instruction before those of the next.
 #[derive(Debug, Drop, Error)]
 pub enum TypeFault {
@@ -68,7 +71,8 @@ pub enum TypeFault {
         /// The instruction.
         i: u32,
     },
-    /// An instruction breaks the rule of its types; or, where both numbers are 2^32 - 1, the initialiser of a global does.
+    /// An instruction breaks the rule of its types; or, where both numbers are 2^32 - 1, the initialiser of a global
+    /// does.
     #[error("a wrong type")]
     WrongType {
         /// The function.
@@ -76,7 +80,8 @@ pub enum TypeFault {
         /// The instruction.
         i: u32,
     },
-    /// A phi does not stand at the front of its block, or its labels are not the block's predecessors, or one label has two values.
+    /// A phi does not stand at the front of its block, or its labels are not the block's predecessors, or one label
+    /// has two values.
     #[error("a bad phi")]
     BadPhi {
         /// The function.

@@ -36,7 +36,8 @@ fn twice_local(alloc: Global, f: u32, name: &Name) -> TypeFault
 /// The local names of a function, which has this number.
 fn locals_of<'a>(alloc: Global, function: &'a Function, f: u32) -> Result<Locals<'a>, TypeFault>
     ensures named { IfOk result (λ locals. (locals ≡ function.now) × AreDistinct (local_names function.now)) }
-    ensures refused { (m : whole) → IfErr result (λ fault. (fault ≡ faults.Memory) ⊎ HasFunctionFault m f function.now fault) }
+    ensures refused { (m : whole) → IfErr result (λ fault. (fault ≡ faults.Memory)
+        ⊎ HasFunctionFault m f function.now fault) }
 {
     match Locals::new(alloc, function) {
         Ok(locals) => Ok(locals),
@@ -73,7 +74,8 @@ fn check_instructions<'a>(
     requires labels { HasLabels function.now }
     requires few { (length function.now.blocks < 2 ^ 32) × (length (placed_of function.now) < 2 ^ 32) }
     ensures kept { IfOk result (λ _. All (KeepsAll entities.now function.now) (placed_of function.now)) }
-    ensures refused { IfErr result (λ fault. (fault ≡ faults.Memory) ⊎ HasFunctionFault entities.now f function.now fault) }
+    ensures refused { IfErr result (λ fault. (fault ≡ faults.Memory)
+        ⊎ HasFunctionFault entities.now f function.now fault) }
 {
     let predecessors = predecessors_of(alloc, graph)?;
     let fronts = fronts(alloc, function.blocks.as_slice())?;
@@ -106,8 +108,10 @@ fn check_body<'a>(
     requires labels { HasLabels function.now }
     requires defined { function.now.blocks ≡ [] → ⊥ }
     requires few { (length function.now.blocks < 2 ^ 32) × (length (placed_of function.now) < 2 ^ 32) }
-    ensures kept { IfOk result (λ _. All (KeepsAll entities.now function.now) (placed_of function.now) × All (KeepsAssigned function.now) (placed_of function.now)) }
-    ensures refused { IfErr result (λ fault. (fault ≡ faults.Memory) ⊎ HasFunctionFault entities.now f function.now fault) }
+    ensures kept { IfOk result (λ _. All (KeepsAll entities.now function.now) (placed_of function.now)
+        × All (KeepsAssigned function.now) (placed_of function.now)) }
+    ensures refused { IfErr result (λ fault. (fault ≡ faults.Memory)
+        ⊎ HasFunctionFault entities.now f function.now fault) }
 {
     let graph = edges_of(alloc, function, locals)?;
     check_instructions(alloc, entities, shapes, function, locals, sites, &graph, f)?;
@@ -131,7 +135,8 @@ pub fn check_function<'a>(
     requires defined { function.now.blocks ≡ [] → ⊥ }
     requires few { (length function.now.blocks < 2 ^ 32) × (length (placed_of function.now) < 2 ^ 32) }
     ensures good { IfOk result (λ _. IsGoodFunction entities.now function.now) }
-    ensures refused { IfErr result (λ fault. (fault ≡ faults.Memory) ⊎ HasFunctionFault entities.now f function.now fault) }
+    ensures refused { IfErr result (λ fault. (fault ≡ faults.Memory)
+        ⊎ HasFunctionFault entities.now f function.now fault) }
 {
     let locals = match locals_of(alloc, function, f) {
         Ok(locals) => locals,

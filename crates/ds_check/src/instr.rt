@@ -1,8 +1,7 @@
 //! The rules that are looked at one instruction after another.
 ghost use Rattle.std.specs.Prelude.{◌≡◌, ◌<◌, ◌^◌, ◌↔◌, ℕ, All, IfOk, IsTrue, length};
 ghost use Rattle.ds_shape.specs.Types.{IsTypedOp};
-ghost use Rattle.ds_shape.specs.Accepted.{GivesRegister, IsPhi};
-ghost use Rattle.ds_shape.specs.Placed.{Placed as placed, KeepsPhi};
+ghost use Rattle.ds_shape.specs.Placed.{Placed as placed, KeepsPhi, GivesRegister, IsPhi};
 ghost use Rattle.ds_blocks.specs.Predecessors.{ArePredecessorsOf};
 ghost use Rattle.ds_blocks.specs.Sites.{IsSite};
 ghost use Rattle.ds_check.specs.Front.{AreFronts};
@@ -74,7 +73,8 @@ impl<'j, 'a> Judge<'j, 'a> {
         requires predecessors { ArePredecessorsOf self.now.function.now self.now.predecessors.now }
         requires fronts { AreFronts self.now.function.now.blocks self.now.fronts.now }
         requires site { (n : ℕ) × (p : placed) × IsSite self.now.function.now n site p }
-        ensures { IfOk result (λ kept. (n : ℕ) (p : placed) → IsSite self.now.function.now n site p → op.now ≡ p.instr.op → (IsTrue kept ↔ KeepsPhi self.now.function.now p)) }
+        ensures { IfOk result (λ kept. (n : ℕ) (p : placed) → IsSite self.now.function.now n site p
+            → op.now ≡ p.instr.op → (IsTrue kept ↔ KeepsPhi self.now.function.now p)) }
     {
         if !is_phi(op) {
             return Ok(true);
@@ -95,7 +95,8 @@ impl<'j, 'a> Judge<'j, 'a> {
     fn keeps_types(&self, alloc: Global, number: usize, op: &'a Op) -> Result<bool, AllocError>
         requires shapes { self.now.shapes.now ≡ self.now.entities.now.structs }
         requires locals { self.now.locals.now ≡ self.now.function.now }
-        ensures { IfOk result (λ kept. IsTrue kept ↔ (IsTypedOp self.now.entities.now self.now.function.now op.now × (number ≡ 0 → GivesRegister self.now.function.now.result))) }
+        ensures { IfOk result (λ kept. IsTrue kept ↔ (IsTypedOp self.now.entities.now self.now.function.now op.now
+            × (number ≡ 0 → GivesRegister self.now.function.now.result))) }
     {
         if number == 0 {
             if !gives_register(self.function) {
@@ -113,7 +114,8 @@ impl<'j, 'a> Judge<'j, 'a> {
     }
 }
 
-/// The first rule that an instruction breaks, of those that are looked at one instruction after another. `number` is its number in the function.
+/// The first rule that an instruction breaks, of those that are looked at one instruction after another. `number` is
+/// its number in the function.
 pub fn first_broken<'a>(
     alloc: Global,
     judge: &Judge<'_, 'a>,
@@ -127,7 +129,8 @@ pub fn first_broken<'a>(
     requires predecessors { ArePredecessorsOf judge.now.function.now judge.now.predecessors.now }
     requires fronts { AreFronts judge.now.function.now.blocks judge.now.fronts.now }
     requires site { (p : placed) × IsSite judge.now.function.now number site p }
-    ensures { IfOk result (λ rule. (p : placed) → IsSite judge.now.function.now number site p → op.now ≡ p.instr.op → IsBroken judge.now.entities.now judge.now.function.now p rule) }
+    ensures { IfOk result (λ rule. (p : placed) → IsSite judge.now.function.now number site p → op.now ≡ p.instr.op
+        → IsBroken judge.now.entities.now judge.now.function.now p rule) }
 {
     if !are_operands_defined(judge.entities, judge.locals, op) {
         return Ok(Some(Rule::Defined));

@@ -34,7 +34,9 @@ fn broken_at<'a>(
     requires fronts { AreFronts judge.now.function.now.blocks judge.now.fronts.now }
     requires sites { sites.now ≡ judge.now.function.now }
     requires number { number < length (placed_of judge.now.function.now) }
-    ensures { IfOk result (λ rule. (p : placed) → IsBroken judge.now.entities.now judge.now.function.now (slice_index_or (placed_of judge.now.function.now) number p) rule) }
+    ensures { IfOk result (λ rule. (p : placed)
+        → IsBroken judge.now.entities.now judge.now.function.now (slice_index_or (placed_of judge.now.function.now)
+        number p) rule) }
 {
     let site = sites.site(number);
     let instr = instr_at(judge.function, sites, number);
@@ -53,8 +55,11 @@ pub fn first_broken_instruction<'a>(
     requires predecessors { ArePredecessorsOf judge.now.function.now judge.now.predecessors.now }
     requires fronts { AreFronts judge.now.function.now.blocks judge.now.fronts.now }
     requires sites { sites.now ≡ judge.now.function.now }
-    ensures some { IfOk result (λ answer. IfSome answer (λ b. IsFirstBroken judge.now.entities.now judge.now.function.now b)) }
-    ensures none { IfOk result (λ answer. IfNone answer (All (KeepsAll judge.now.entities.now judge.now.function.now) (placed_of judge.now.function.now))) }
+    ensures some { IfOk result (λ answer. IfSome answer
+        (λ b. IsFirstBroken judge.now.entities.now judge.now.function.now b)) }
+    ensures none { IfOk result
+        (λ answer. IfNone answer (All (KeepsAll judge.now.entities.now judge.now.function.now) (placed_of
+        judge.now.function.now))) }
 {
     for number in 0..sites.len() {
         match broken_at(alloc, judge, sites, number)? {

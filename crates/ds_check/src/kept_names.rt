@@ -1,7 +1,8 @@
 //! The first name that may not be defined or declared.
 ghost use Rattle.std.specs.Prelude.{◌↔◌, IsTrue, IfSome, IfNone, All};
 ghost use Rattle.ds_shape.specs.Written.{IsFirstBreach};
-ghost use Rattle.ds_check.specs.Fault.{IsFreeGlobal, IsGoodExternal, IsFirstExternal};
+ghost use Rattle.ds_check.specs.Fault.{IsFirstExternal};
+ghost use Rattle.ds_shape.specs.Accepted.{IsFreeGlobal, IsGoodExternal};
 
 use crate::externals::{is_known_external, is_reserved};
 use ds_ast::{Function, GlobalDef, Module, Name};

@@ -31,7 +31,8 @@ pub fn limit_by(what: CountKind) -> u32
     }
 }
 
-/// What a module has too many of first, in the order in which it is counted: functions, instructions, parameters, words of globals.
+/// What a module has too many of first, in the order in which it is counted: functions, instructions, parameters,
+/// words of globals.
 pub fn first_above_limit(module: &Module, shapes: &Shapes) -> Option<CountKind>
     requires layout { HasLayout «module».now }
     requires shapes { shapes.now ≡ «module».now.structs }

@@ -1,10 +1,10 @@
 //! The function with which a program begins.
 ghost use Rattle.std.specs.Prelude.{◌≡◌, ◌↔◌, IsTrue, Any};
-ghost use Rattle.ds_shape.specs.Accepted.{HasMain};
-ghost use Rattle.ds_check.specs.Main.{IsMain};
+ghost use Rattle.ds_shape.specs.Accepted.{HasMain, IsMain};
 
-use crate::externals::{is_called, takes};
+use crate::externals::takes;
 use ds_ast::{Function, Module, Scalar, Ty};
+use ds_scope::is_called;
 
 /// Whether a function is a `main` that a program begins with.
 fn is_main(f: &Function) -> bool

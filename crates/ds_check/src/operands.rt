@@ -2,8 +2,9 @@
 ghost use Rattle.std.specs.Prelude.{◌≡◌, ◌↔◌, IsTrue, All, slice_get, Some};
 ghost use Rattle.ds_ast.specs.declared.value.Value.{Value as value};
 ghost use Rattle.ds_ast.specs.declared.operand.Arm.{Arm as arm};
-ghost use Rattle.ds_shape.specs.Accepted.{IsDefined, operands_of};
-ghost use Rattle.ds_shape.specs.Flow.{uses_of, arms_of};
+ghost use Rattle.ds_shape.specs.Placed.{values_of, IsDefined};
+ghost use Rattle.ds_shape.specs.Operands.{uses_of};
+ghost use Rattle.ds_shape.specs.Flow.{arms_of};
 ghost use Rattle.ds_blocks.specs.Uses.{value_of};
 
 use ds_ast::Op;
@@ -23,7 +24,8 @@ fn is_defined_use(entities: &Entities, locals: &Locals, used: Used<'_>) -> bool
 
 /// Whether the value that an instruction uses at a place is defined.
 fn is_defined_at(entities: &Entities, locals: &Locals, op: &Op, n: usize) -> bool
-    ensures { (v : value) → slice_get (uses_of op.now) n ≡ Some v → (IsTrue result ↔ IsDefined entities.now locals.now v) }
+    ensures { (v : value) → slice_get (uses_of op.now) n ≡ Some v → (IsTrue result
+        ↔ IsDefined entities.now locals.now v) }
 {
     match use_at(op, n) {
         Some(used) => is_defined_use(entities, locals, used),
@@ -57,7 +59,7 @@ fn are_arms_defined(entities: &Entities, locals: &Locals, op: &Op) -> bool
 
 /// Whether all operands of an instruction are defined.
 pub fn are_operands_defined(entities: &Entities, locals: &Locals, op: &Op) -> bool
-    ensures { IsTrue result ↔ All (IsDefined entities.now locals.now) (operands_of op.now) }
+    ensures { IsTrue result ↔ All (IsDefined entities.now locals.now) (values_of op.now) }
 {
     if !are_uses_defined(entities, locals, op) {
         return false;

@@ -22,7 +22,7 @@ no_fault layouts checks m Usage accepted h = absurd h
 no_fault layouts checks m Read accepted h = absurd h
 no_fault layouts checks m TooLong accepted h = absurd h
 no_fault layouts checks m (Parse f) accepted h = absurd h
-no_fault layouts checks m (Shape f) accepted h = layouts m f accepted.layout h
+no_fault layouts checks m (Shape f) accepted h = layouts m f accepted.well_formed.layout h
 no_fault layouts checks m (Check f names) accepted h = checks m f accepted h.1
 no_fault layouts checks m OtherForm accepted h = absurd h
 

@@ -6,7 +6,8 @@ use Rattle.ds_scope.specs.declared.fault.ScopeFault.{ScopeFault}
 use Rattle.ds_scope.specs.declared.fault.ScopeFault.TheVariants.{Twice, Memory}
 use Rattle.ds_scope.specs.Fault.{IsFaultOf}
 
-pub fault_further : (fault : ScopeFault) (names more all : List Name) → names ++ more ≡ all → IsFaultOf names fault → IsFaultOf all fault
+pub fault_further : (fault : ScopeFault) (names more all : List Name) → names ++ more ≡ all → IsFaultOf names fault
+    → IsFaultOf all fault
 fault_further (Twice name) names more all e twice = record {
   before = twice.before;
   after = twice.after ++ more;
@@ -17,13 +18,17 @@ fault_further (Twice name) names more all e twice = record {
 fault_further Memory names more all e twice = tt
 
 -- where it is passed on
-pub passed_on : {T : Type 0} (r : Result T ScopeFault) (fault : ScopeFault) (names more all : List Name) → names ++ more ≡ all → IsErr r × IsErrAnd r (λ g. g ≡ fault)
+pub passed_on : {T : Type 0} (r : Result T ScopeFault) (fault : ScopeFault) (names more all : List Name)
+    → names ++ more ≡ all → IsErr r × IsErrAnd r (λ g. g ≡ fault)
     → IsFaultOf names fault → IfErr r (λ g. IsFaultOf all g)
 passed_on (Ok x) fault names more all e passed is = absurd passed.1
-passed_on (Err g) fault names more all e passed is = fault_further g names more all e (subst (IsFaultOf names) (sym passed.1) is)
+passed_on (Err g) fault names more all e passed is =
+    fault_further g names more all e (subst (IsFaultOf names) (sym passed.1) is)
 
 -- where it is that of the same names
-pub passed_same : {T : Type 0} (r : Result T ScopeFault) (fault : ScopeFault) (names all : List Name) → names ≡ all → IsErr r × IsErrAnd r (λ g. g ≡ fault)
+pub passed_same : {T : Type 0} (r : Result T ScopeFault) (fault : ScopeFault) (names all : List Name) → names ≡ all
+    → IsErr r × IsErrAnd r (λ g. g ≡ fault)
     → IsFaultOf names fault → IfErr r (λ g. IsFaultOf all g)
 passed_same (Ok x) fault names all e passed is = absurd passed.1
-passed_same (Err g) fault names all e passed is = subst (λ ns. IsFaultOf ns g) e (subst (IsFaultOf names) (sym passed.1) is)
+passed_same (Err g) fault names all e passed is =
+    subst (λ ns. IsFaultOf ns g) e (subst (IsFaultOf names) (sym passed.1) is)

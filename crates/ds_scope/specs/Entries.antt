@@ -30,7 +30,8 @@ parameter_entries (p ∷ ps) = record { name = p.name; meaning = Parameter (Plai
 
 -- the result of an instruction, if it has one: that of this number in the block of this number
 abbrev pub result_entries : ℕ → ℕ → Instr → List Entry
-result_entries block index i = map (λ (n : Name). record { name = n; meaning = Result (result_type i.op) block index }) (option_to_list i.result)
+result_entries block index i =
+    map (λ (n : Name). record { name = n; meaning = Result (result_type i.op) block index }) (option_to_list i.result)
 
 -- the results of instructions, of which the first has this number in the block
 abbrev pub code_entries : ℕ → ℕ → List Instr → List Entry

@@ -22,4 +22,5 @@ abbrev pub Means : Function → Name → Meaning → Type 0
 Means f name (Parameter t) = (p : Param) × Stands p f.params × (p.name ≡ name) × (t ≡ Plain p.ty)
 Means f name (Label b) = (c : Block) × (slice_get f.blocks b ≡ Some c) × (c.name ≡ name)
 Means f name (Result t b k) =
-    (c : Block) × (i : Instr) × (slice_get f.blocks b ≡ Some c) × (slice_get c.code k ≡ Some i) × (i.result ≡ Some name) × (t ≡ result_type i.op)
+    (c : Block) × (i : Instr) × (slice_get f.blocks b ≡ Some c) × (slice_get c.code k ≡ Some i)
+    × (i.result ≡ Some name) × (t ≡ result_type i.op)

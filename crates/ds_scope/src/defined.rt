@@ -1,6 +1,6 @@
 //! Whether a value is defined.
 ghost use Rattle.std.specs.Prelude.{◌≡◌, ◌↔◌, IsTrue};
-ghost use Rattle.ds_shape.specs.Accepted.{IsDefined};
+ghost use Rattle.ds_shape.specs.Placed.{IsDefined};
 
 use crate::entities::Entities;
 use crate::locals::Locals;

@@ -1,5 +1,6 @@
 //! The globals and functions of a module by their names.
-ghost use Rattle.std.specs.Prelude.{◌≡◌, ◌↔◌, ◌++◌, map, IsTrue, OnOk, IfOk, IfErr, IfSome, IfNone, option_copied, slice_get};
+ghost use Rattle.std.specs.Prelude.{◌≡◌, ◌↔◌, ◌++◌, map, IsTrue, OnOk, IfOk, IfErr, IfSome, IfNone, option_copied};
+ghost use Rattle.std.specs.Prelude.{slice_get};
 ghost use Rattle.ds_ast.specs.declared.module.GlobalDef.{GlobalDef};
 ghost use Rattle.ds_ast.specs.declared.module.Function.{Function};
 ghost use Rattle.ds_names.specs.Names.{AreDistinct};
@@ -35,11 +36,13 @@ impl<'a> Model for Entities<'a> {
 
     ghost view = { λ entities. entities.«module».now };
 
-    ghost invariant = { λ entities. (entities.names ≡ global_names entities.«module».now) × AreDistinct entities.names };
+    ghost invariant = { λ entities. (entities.names ≡ global_names entities.«module».now)
+        × AreDistinct entities.names };
 }
 
 impl<'a> Entities<'a> {
-    /// The globals and functions of a module. An `Err` comes where a name stands twice, or where there is not enough memory.
+    /// The globals and functions of a module. An `Err` comes where a name stands twice, or where there is not enough
+    /// memory.
     pub fn new(alloc: Global, module: &'a Module) -> Result<Entities<'a>, ScopeFault<'a>>
         ensures named { IfOk result (λ entities. (entities ≡ «module».now) × AreDistinct (global_names «module».now)) }
         ensures refused { IfErr result (λ fault. IsFaultOf (global_names «module».now) fault) }
@@ -106,7 +109,8 @@ fn function_at(functions: &[Function], number: usize) -> Option<&Function>
 fn put_globals<'a>(names: &mut Names<'a>, globals: &'a [GlobalDef]) -> Result<(), ScopeFault<'a>>
     ensures put { OnOk result (names.new ≡ names.old ++ map (λ (g : GlobalDef). g.name) globals.now) }
     ensures each_once { OnOk result (AreDistinct names.old → AreDistinct names.new) }
-    ensures refused { IfErr result (λ fault. IsFaultOf (names.old ++ map (λ (g : GlobalDef). g.name) globals.now) fault) }
+    ensures refused { IfErr result (λ fault. IsFaultOf (names.old ++ map
+        (λ (g : GlobalDef). g.name) globals.now) fault) }
 {
     for global in globals {
         put(names, &global.name)?;
@@ -118,7 +122,8 @@ fn put_globals<'a>(names: &mut Names<'a>, globals: &'a [GlobalDef]) -> Result<()
 fn put_functions<'a>(names: &mut Names<'a>, functions: &'a [Function]) -> Result<(), ScopeFault<'a>>
     ensures put { OnOk result (names.new ≡ names.old ++ map (λ (f : Function). f.name) functions.now) }
     ensures each_once { OnOk result (AreDistinct names.old → AreDistinct names.new) }
-    ensures refused { IfErr result (λ fault. IsFaultOf (names.old ++ map (λ (f : Function). f.name) functions.now) fault) }
+    ensures refused { IfErr result (λ fault. IsFaultOf (names.old ++ map
+        (λ (f : Function). f.name) functions.now) fault) }
 {
     for function in functions {
         put(names, &function.name)?;

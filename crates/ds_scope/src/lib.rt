@@ -1,6 +1,7 @@
 //! What names mean in a module and in its functions.
 #![tactic(auto)]
 
+mod called;
 mod defined;
 mod entities;
 mod fault;
@@ -10,6 +11,7 @@ mod put;
 mod results;
 mod row;
 
+pub use called::is_called;
 pub use defined::is_defined;
 pub use entities::Entities;
 pub use fault::ScopeFault;

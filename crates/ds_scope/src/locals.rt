@@ -39,7 +39,8 @@ impl<'a> Model for Locals<'a> {
 
     ghost view = { λ locals. locals.function.now };
 
-    ghost invariant = { λ locals. (locals.row.names ≡ names_of (entries_of locals.function.now)) × (locals.row.meanings.items ≡ meanings_of (entries_of locals.function.now)) × AreDistinct locals.row.names };
+    ghost invariant = { λ locals. (locals.row.names ≡ names_of (entries_of locals.function.now))
+        × (locals.row.meanings.items ≡ meanings_of (entries_of locals.function.now)) × AreDistinct locals.row.names };
 }
 
 impl<'a> Locals<'a> {

@@ -42,7 +42,8 @@ fn register_type(ty: &Ty) -> Option<LocalType>
     }
 }
 
-/// The type of a part of the pair that `cmpxchg` on this type gives: 0 is the old value, and all others whether it exchanged.
+/// The type of a part of the pair that `cmpxchg` on this type gives: 0 is the old value, and all others whether it
+/// exchanged.
 fn part_type(ty: Scalar, index: u32) -> Scalar
     ensures { result ≡ types.part_type ty index }
 {

@@ -2,9 +2,6 @@ pub mod Deeper
 pub mod Standing
 mod Tried
 pub mod TriedModule
-mod TriedFaults
-mod TriedFlow
-mod TriedTypes
 pub mod Exist
 pub mod Caps
 pub mod Arrays

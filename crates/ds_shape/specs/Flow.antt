@@ -1,49 +1,21 @@
 -- The blocks of a function, the edges between them, and what is assigned on every path.
 use Rattle.std.specs.Prelude.{◌≡◌, ℕ, ◌⊎◌, List, [], ◌∷◌, map, Some}
-use Rattle.std.specs.Option.{option_to_list}
 use Rattle.ds_ast.specs.declared.name.Name.{Name}
-use Rattle.ds_ast.specs.declared.value.Value.{Value}
-use Rattle.ds_ast.specs.declared.value.Value.TheVariants.{Local, Global}
-use Rattle.ds_ast.specs.declared.operand.Operand.{Operand}
 use Rattle.ds_ast.specs.declared.operand.Arm.{Arm}
 use Rattle.ds_ast.specs.declared.instr.Op.{Op}
-use Rattle.ds_ast.specs.declared.instr.Op.TheVariants.{Bin, Icmp, Select, Cast, Alloca, Load, Store, Gep, Call, Phi, Rmw, Cmpxchg, Extract, Fence, Ret, Br, CondBr, Switch, Unreachable}
+use Rattle.ds_ast.specs.declared.instr.Op.TheVariants.{Phi, Br, CondBr, Switch}
 use Rattle.ds_ast.specs.declared.instr.Instr.{Instr}
 use Rattle.ds_ast.specs.declared.module.Function.{Function}
 use Rattle.ds_ast.specs.declared.module.Param.{Param}
 use Rattle.ds_ast.specs.declared.module.Block.{Block}
 use Rattle.ds_shape.specs.Types.{Stands}
 
--- OPERANDS
-
--- the values that an instruction uses, in the order of the text, without those of a phi, which are used at the ends of other blocks
-abbrev pub uses_of : Op → List Value
-uses_of (Bin op s a b) = a ∷ b ∷ []
-uses_of (Icmp cond s a b) = a ∷ b ∷ []
-uses_of (Select c s a b) = c ∷ a ∷ b ∷ []
-uses_of (Cast op from a to) = a ∷ []
-uses_of (Alloca t count) = map (λ (o : Operand). o.value) (option_to_list count)
-uses_of (Load s at) = at ∷ []
-uses_of (Store s v at) = v ∷ at ∷ []
-uses_of (Gep t base indices) = base ∷ map (λ (o : Operand). o.value) indices
-uses_of (Call t callee args) = Global callee ∷ map (λ (o : Operand). o.value) args
-uses_of (Phi s arms) = []
-uses_of (Rmw op at s v) = at ∷ v ∷ []
-uses_of (Cmpxchg at s expected new) = at ∷ expected ∷ new ∷ []
-uses_of (Extract s of index) = Local of ∷ []
-uses_of Fence = []
-uses_of (Ret v) = map (λ (o : Operand). o.value) (option_to_list v)
-uses_of (Br l) = []
-uses_of (CondBr c l k) = c ∷ []
-uses_of (Switch s v other cases) = v ∷ []
-uses_of Unreachable = []
+-- EDGES
 
 -- the arms of a phi
 abbrev pub arms_of : Op → List Arm
 arms_of (Phi s arms) = arms
 arms_of other = []
-
--- EDGES
 
 -- the labels that a terminator names, in the order of the text
 abbrev pub targets_of : Op → List Name

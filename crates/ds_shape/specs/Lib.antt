@@ -1,7 +1,10 @@
 pub mod Sizes
 pub mod Written
+pub mod Externals
+pub mod Operands
 pub mod Types
 pub mod Flow
+pub mod Breaches
 pub mod Accepted
 pub mod Laws
 pub mod Fault

@@ -1,21 +1,22 @@
 -- The types of values in a function, and which instructions keep the rules of types.
-use Rattle.std.specs.Prelude.{◌≡◌, ℕ, zero, suc, ◌<◌, ◌⊎◌, List, [], ◌∷◌, ◌++◌, length, map, flat_map, Option, Some, None, All, IfSome, codes}
+use Rattle.std.specs.Prelude.{◌≡◌, ℕ, zero, suc, ◌<◌, ◌⊎◌, List, [], ◌∷◌, ◌++◌, length, map, flat_map, Option, Some}
+use Rattle.std.specs.Prelude.{None, slice_get, All, IfSome}
 use Rattle.ds_ast.specs.declared.name.Name.{Name}
-use Rattle.ds_ast.specs.declared.name.Name.TheVariants.{Text}
 use Rattle.ds_ast.specs.declared.ty.Scalar.{Scalar}
 use Rattle.ds_ast.specs.declared.ty.Scalar.TheVariants.{I1, I8, I16, I32, I64, Ptr}
 use Rattle.ds_ast.specs.declared.ty.Ty.{Ty, Void, One, Struct, Array', more_of-Ty, end_of-Ty}
 use Rattle.ds_ast.specs.declared.value.Value.{Value}
 use Rattle.ds_ast.specs.declared.value.Value.TheVariants.{Int, Null, Undef, Local, Global}
 use Rattle.ds_ast.specs.declared.operand.Operand.{Operand}
-use Rattle.ds_ast.specs.declared.operand.Arm.{Arm}
 use Rattle.ds_ast.specs.declared.words.BinOp.{BinOp}
 use Rattle.ds_ast.specs.declared.words.BinOp.TheVariants as bin
 use Rattle.ds_ast.specs.declared.words.CastOp.{CastOp}
 use Rattle.ds_ast.specs.declared.words.CastOp.TheVariants as cast
 use Rattle.ds_ast.specs.declared.words.RmwOp.TheVariants as rmw
 use Rattle.ds_ast.specs.declared.instr.Op.{Op}
-use Rattle.ds_ast.specs.declared.instr.Op.TheVariants.{Bin, Icmp, Select, Cast, Alloca, Load, Store, Gep, Call, Phi, Rmw, Cmpxchg, Extract, Fence, Ret, Br, CondBr, Switch, Unreachable}
+use Rattle.ds_ast.specs.declared.instr.Op.TheVariants.{Bin, Icmp, Select, Cast, Alloca, Load, Store, Gep, Call, Phi}
+use Rattle.ds_ast.specs.declared.instr.Op.TheVariants.{Rmw, Cmpxchg, Extract, Fence, Ret, Br, CondBr, Switch}
+use Rattle.ds_ast.specs.declared.instr.Op.TheVariants.{Unreachable}
 use Rattle.ds_ast.specs.declared.instr.Instr.{Instr}
 use Rattle.ds_ast.specs.declared.init.Init.{Init, Zero, Word, Array', Fields', Row_of-Init, end_of-Init, more_of-Init}
 use Rattle.ds_ast.specs.declared.module.Module.{Module}
@@ -25,6 +26,8 @@ use Rattle.ds_ast.specs.declared.module.Param.{Param}
 use Rattle.ds_ast.specs.declared.module.Block.{Block}
 use Rattle.ds_ast.specs.Bounds.{width, fields_of}
 use Rattle.ds_names.specs.Names.{Among}
+use Rattle.ds_shape.specs.Operands.{operands_of}
+use Rattle.ds_shape.specs.Externals.{TakesFunction, TakesNull, IsThreadFunction}
 use Rattle.ds_shape.specs.declared.local.LocalType.{LocalType}
 use Rattle.ds_shape.specs.declared.local.LocalType.TheVariants.{Plain, Pair}
 
@@ -34,23 +37,12 @@ use Rattle.ds_shape.specs.declared.local.LocalType.TheVariants.{Plain, Pair}
 abbrev pub Stands : {A : Type 0} → A → List A → Type 0
 Stands {A} item items = (before : List A) × (after : List A) × (items ≡ before ++ item ∷ after)
 
--- each item of the first list goes with the one at its place in the other, and both have as many
-abbrev pub Pairwise : {A B : Type 0} → (A → B → Type 0) → List A → List B → Type 0
-Pairwise P [] [] = Unit {0}
-Pairwise P [] (y ∷ ys) = ⊥
-Pairwise P (x ∷ xs) [] = ⊥
-Pairwise P (x ∷ xs) (y ∷ ys) = P x y × Pairwise P xs ys
-
 -- no number stands there twice
 abbrev pub AreDistinctNumbers : List ℕ → Type 0
 AreDistinctNumbers [] = Unit {0}
 AreDistinctNumbers (n ∷ ns) = All (λ m. m ≡ n → ⊥) ns × AreDistinctNumbers ns
 
 -- NAMES
-
--- the name is this text
-abbrev pub IsCalled : List ℕ → Name → Type 0
-IsCalled bytes name = name ≡ Text bytes
 
 -- a global has the name
 abbrev pub IsGlobal : Module → Name → Type 0
@@ -152,24 +144,19 @@ IsNoVoid (Struct name) = Unit {0}
 
 -- the field behind so many
 abbrev pub FieldAt : List Ty → ℕ → Ty → Type 0
-FieldAt fields n next = (before : List Ty) × (after : List Ty) × (fields ≡ before ++ next ∷ after) × (length before ≡ n)
-
--- the function is what pthread_create starts: ptr (ptr), and defined
-abbrev pub IsThreadFunction : Function → Type 0
-IsThreadFunction g = (g.result ≡ One Ptr) × (map (λ (p : Param). p.ty) g.params ≡ Ptr ∷ []) × (g.blocks ≡ [] → ⊥)
-
--- the function is this external: declared
-abbrev pub IsExternal : List ℕ → Function → Type 0
-IsExternal bytes g = IsCalled bytes g.name × (g.blocks ≡ [])
+FieldAt fields n next =
+    (before : List Ty) × (after : List Ty) × (fields ≡ before ++ next ∷ after) × (length before ≡ n)
 
 module _ (m : Module) where
-  -- a type behind one index more: that of an array's elements by any index, that of a struct's field by its number as a literal of i32
+  -- a type behind one index more: that of an array's elements by any index, that of a struct's field by its number as
+  -- a literal of i32
   abbrev pub Steps : Ty → Operand → Ty → Type 0
   Steps Void index next = ⊥
   Steps (One s) index next = ⊥
   Steps (Array' count _ (more_of-Ty of end_of-Ty)) index next = next ≡ of
   Steps (Struct name) index next =
-      (fields : List Ty) × (n : ℕ) × (fields_of m.structs name ≡ Some fields) × (index.ty ≡ I32) × (index.value ≡ Int n) × FieldAt fields n next
+      (fields : List Ty) × (n : ℕ) × (fields_of m.structs name ≡ Some fields)
+      × (index.ty ≡ I32) × (index.value ≡ Int n) × FieldAt fields n next
 
   -- the indices walk into the type
   abbrev pub Walks : Ty → List Operand → Type 0
@@ -181,7 +168,7 @@ module _ (m : Module) where
   Addresses t [] = Unit {0}
   Addresses t (i ∷ is) = Walks t is
 
-  -- the value is the name of such a function
+  -- the value is the name of a function that a thread runs
   abbrev pub IsThreadStart : Value → Type 0
   IsThreadStart (Int n) = ⊥
   IsThreadStart Null = ⊥
@@ -190,8 +177,8 @@ module _ (m : Module) where
   IsThreadStart (Global name) = (g : Function) × Stands g m.functions × (g.name ≡ name) × IsThreadFunction g
 
 module _ (m : Module) (f : Function) where
-  -- the value has the type: a number any integer, null that of addresses, undef any, a local that of its definition, a global's name that of addresses; no
-  -- function's name is a value
+  -- the value has the type: a number any integer, null that of addresses, undef any, a local that of its definition, a
+  -- global's name that of addresses; no function's name is a value
   abbrev pub HasType : Scalar → Value → Type 0
   HasType s (Int n) = IsInteger s
   HasType s Null = s ≡ Ptr
@@ -202,48 +189,66 @@ module _ (m : Module) (f : Function) where
   abbrev pub IsTypedOperand : Operand → Type 0
   IsTypedOperand o = HasType o.ty o.value
 
-  -- the argument of a call has the type of the parameter
-  abbrev pub IsArgument : Operand → Param → Type 0
-  IsArgument o p = (o.ty ≡ p.ty) × IsTypedOperand o
+  -- the argument behind so many others is what the function takes there: the name of a function that a thread runs, or
+  -- else an operand; and null where it takes null
+  abbrev pub IsPassedAs : Function → ℕ → Operand → Type 0
+  IsPassedAs g n o =
+      (TakesFunction g n → IsThreadStart m o.value) × ((TakesFunction g n → ⊥) → IsTypedOperand o)
+      × (TakesNull g n → o.value ≡ Null)
 
-  abbrev pub CreateArguments : List Operand → Type 0
-  CreateArguments (id ∷ attributes ∷ start ∷ argument ∷ []) =
-      (id.ty ≡ Ptr) × IsTypedOperand id × (attributes.ty ≡ Ptr) × (attributes.value ≡ Null) × (start.ty ≡ Ptr) × IsThreadStart m start.value × (argument.ty ≡ Ptr) × IsTypedOperand argument
-  CreateArguments other = ⊥
-
-  abbrev pub JoinArguments : List Operand → Type 0
-  JoinArguments (id ∷ result ∷ []) = (id.ty ≡ I64) × IsTypedOperand id × (result.ty ≡ Ptr) × (result.value ≡ Null)
-  JoinArguments other = ⊥
-
-  -- the arguments of pthread_create: where the identifier goes, null, a function and its argument; those of pthread_join: the identifier and null
+  -- there are as many arguments as parameters, each of the parameter's type
   abbrev pub ArePassed : Function → List Operand → Type 0
   ArePassed g args =
-      (IsExternal (codes "pthread_create") g × CreateArguments args)
-      ⊎ ((IsExternal (codes "pthread_join") g × JoinArguments args)
-      ⊎ ((IsExternal (codes "pthread_create") g → ⊥) × (IsExternal (codes "pthread_join") g → ⊥) × Pairwise IsArgument args g.params))
+      (length args ≡ length g.params)
+      × ((n : ℕ) (o : Operand) (p : Param) → slice_get args n ≡ Some o → slice_get g.params n ≡ Some p
+      → (o.ty ≡ p.ty) × IsPassedAs g n o)
 
-  -- THE RULE OF EACH INSTRUCTION
+  -- The rule of each instruction beside that of its operands, with the name of its section in the LLVM Language
+  -- Reference.
+  abbrev pub KeepsRule : Op → Type 0
+  -- 'add' to 'xor' Instruction: integers, and truth values for operations of bits alone
+  KeepsRule (Bin op s a b) = IsInteger s × (s ≡ I1 → IsBitwise op)
+  -- 'icmp' Instruction
+  KeepsRule (Icmp cond s a b) = Unit {0}
+  -- 'select' Instruction
+  KeepsRule (Select c s a b) = Unit {0}
+  -- 'trunc .. to', 'zext .. to', 'sext .. to', 'ptrtoint .. to' and 'inttoptr .. to' Instruction
+  KeepsRule (Cast op from a to) = Converts op from to
+  -- 'alloca' Instruction: the count is an integer
+  KeepsRule (Alloca t count) = IsNoVoid t × IfSome count (λ o. IsInteger o.ty)
+  -- 'load' Instruction
+  KeepsRule (Load s at) = IsStored s
+  -- 'store' Instruction
+  KeepsRule (Store s v at) = IsStored s
+  -- 'getelementptr' Instruction
+  KeepsRule (Gep t base indices) = IsNoVoid t × All (λ (o : Operand). IsWide o.ty) indices × Addresses m t indices
+  -- 'call' Instruction: the function gives what is written, and is passed what it takes
+  KeepsRule (Call t callee args) =
+      (g : Function) × Stands g m.functions × (g.name ≡ callee) × (t ≡ g.result) × ArePassed g args
+  -- 'phi' Instruction
+  KeepsRule (Phi s arms) = Unit {0}
+  -- 'atomicrmw' Instruction: addresses are exchanged alone
+  KeepsRule (Rmw op at s v) = IsStored s × (s ≡ Ptr → op ≡ rmw.Xchg)
+  -- 'cmpxchg' Instruction
+  KeepsRule (Cmpxchg at s expected new) = IsStored s
+  -- 'extractvalue' Instruction: a part of the result of a cmpxchg
+  KeepsRule (Extract s of index) = Defines f of (Some (Pair s))
+  -- 'fence' Instruction
+  KeepsRule Fence = Unit {0}
+  -- 'ret' Instruction: what the function gives
+  KeepsRule (Ret None) = f.result ≡ Void
+  KeepsRule (Ret (Some o)) = f.result ≡ One o.ty
+  -- 'br' Instruction
+  KeepsRule (Br l) = Unit {0}
+  KeepsRule (CondBr c l k) = Unit {0}
+  -- 'switch' Instruction: no number stands there twice
+  KeepsRule (Switch s v other cases) = IsWide s × AreDistinctNumbers (map (λ (c : ℕ × Name). c.0) cases)
+  -- 'unreachable' Instruction
+  KeepsRule Unreachable = Unit {0}
+
+  -- each operand of the instruction has the type that is written before it, and the instruction keeps its rule
   abbrev pub IsTypedOp : Op → Type 0
-  IsTypedOp (Bin op s a b) = IsInteger s × (s ≡ I1 → IsBitwise op) × HasType s a × HasType s b
-  IsTypedOp (Icmp cond s a b) = HasType s a × HasType s b
-  IsTypedOp (Select c s a b) = HasType I1 c × HasType s a × HasType s b
-  IsTypedOp (Cast op from a to) = Converts op from to × HasType from a
-  IsTypedOp (Alloca t count) = IsNoVoid t × IfSome count (λ o. IsInteger o.ty × IsTypedOperand o)
-  IsTypedOp (Load s at) = IsStored s × HasType Ptr at
-  IsTypedOp (Store s v at) = IsStored s × HasType s v × HasType Ptr at
-  IsTypedOp (Gep t base indices) = IsNoVoid t × HasType Ptr base × All (λ (o : Operand). IsWide o.ty × IsTypedOperand o) indices × Addresses m t indices
-  IsTypedOp (Call t callee args) = (g : Function) × Stands g m.functions × (g.name ≡ callee) × (t ≡ g.result) × ArePassed g args
-  IsTypedOp (Phi s arms) = All (λ (a : Arm). HasType s a.value) arms
-  IsTypedOp (Rmw op at s v) = IsStored s × (s ≡ Ptr → op ≡ rmw.Xchg) × HasType Ptr at × HasType s v
-  IsTypedOp (Cmpxchg at s expected new) = IsStored s × HasType Ptr at × HasType s expected × HasType s new
-  IsTypedOp (Extract s of index) = Defines f of (Some (Pair s))
-  IsTypedOp Fence = Unit {0}
-  IsTypedOp (Ret None) = f.result ≡ Void
-  IsTypedOp (Ret (Some o)) = (f.result ≡ One o.ty) × IsTypedOperand o
-  IsTypedOp (Br l) = Unit {0}
-  IsTypedOp (CondBr c l k) = HasType I1 c
-  IsTypedOp (Switch s v other cases) = IsWide s × HasType s v × AreDistinctNumbers (map (λ (c : ℕ × Name). c.0) cases)
-  IsTypedOp Unreachable = Unit {0}
+  IsTypedOp o = All IsTypedOperand (operands_of o) × KeepsRule o
 
 -- INITIALISERS
 
@@ -262,7 +267,8 @@ struct_fields m (Array' count _ of) = None
 struct_fields m (Struct name) = fields_of m.structs name
 
 module _ (m : Module) where
-  -- a value in a global has the type: a number any integer, null and the name of a global that of addresses, undef any register's
+  -- a value in a global has the type: a number any integer, null and the name of a global that of addresses, undef any
+  -- register's
   abbrev pub IsConstant : Scalar → Value → Type 0
   IsConstant s (Int n) = IsInteger s
   IsConstant s Null = s ≡ Ptr
@@ -289,7 +295,8 @@ module _ (m : Module) where
     pub AreElements : Option (ℕ × Ty) → {m : _} → Row_of-Init m → Type 0
     AreElements None parts = ⊥
     AreElements (Some of) end_of-Init = of.0 ≡ 0
-    AreElements (Some of) (more_of-Init part parts) = (n : ℕ) × (of.0 ≡ suc n) × IsInitial of.1 part × AreElements (Some (n, of.1)) parts
+    AreElements (Some of) (more_of-Init part parts) =
+        (n : ℕ) × (of.0 ≡ suc n) × IsInitial of.1 part × AreElements (Some (n, of.1)) parts
 
     -- one part for each type
     pub AreFields : Option (List Ty) → {m : _} → Row_of-Init m → Type 0

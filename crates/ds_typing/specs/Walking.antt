@@ -1,4 +1,4 @@
--- The type behind an index of an address, as a function.
+-- Helpers of the code, which no public clause cites: the type behind an index of an address, as a function.
 use Rattle.std.specs.Prelude.{ℕ, List, Option, Some, None, slice_get}
 use Rattle.ds_ast.specs.declared.ty.Scalar.{Scalar}
 use Rattle.ds_ast.specs.declared.ty.Scalar.TheVariants.{I1, I8, I16, I32, I64, Ptr}

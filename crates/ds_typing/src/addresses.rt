@@ -1,14 +1,13 @@
 //! The rule of `getelementptr`.
-ghost use Rattle.std.specs.Prelude.{◌≡◌, ◌↔◌, IsTrue, Some, option_copied, slice_get};
+ghost use Rattle.std.specs.Prelude.{◌≡◌, ◌↔◌, IsTrue, Some, All, option_copied, slice_get};
 ghost use Rattle.ds_ast.specs.Bounds.{fields_of};
-ghost use Rattle.ds_ast.specs.declared.instr.Op.TheVariants.{Gep};
-ghost use Rattle.ds_shape.specs.Types.{Addresses, IsTypedOp, Walks};
+ghost use Rattle.ds_ast.specs.declared.operand.Operand.{Operand as operand};
+ghost use Rattle.ds_shape.specs.Types.{Addresses, IsNoVoid, IsWide, Walks};
 ghost use Rattle.ds_typing.specs.Walking.{literal, next_field, next_type};
 
-use crate::scalars::is_no_void;
-use crate::values::{are_indices, has_type};
+use crate::scalars::{is_no_void, is_wide};
 use ds_ast::{Name, Operand, Scalar, Ty, Value};
-use ds_scope::{Entities, Locals};
+use ds_scope::Entities;
 use ds_shape::Shapes;
 
 /// The number that an operand is, if it is a literal of `i32`.
@@ -89,25 +88,33 @@ fn addresses<'a>(entities: &Entities, shapes: &Shapes<'a>, ty: &'a Ty, indices: 
     }
 }
 
-/// Whether a `getelementptr` keeps its rule.
-pub fn is_typed_address<'a>(
+/// Whether all indices of an address are integers of 8 bits or more.
+fn are_wide(indices: &[Operand]) -> bool
+    ensures { IsTrue result ↔ All (λ (o : operand). IsWide o.ty) indices.now }
+{
+    for index in indices {
+        if !is_wide(index.ty) {
+            return false;
+        }
+    }
+    true
+}
+
+/// Whether a `getelementptr` keeps its rule, beside that of its operands.
+pub fn is_address<'a>(
     entities: &Entities,
-    locals: &Locals,
     shapes: &Shapes<'a>,
     ty: &'a Ty,
-    base: &Value,
     indices: &[Operand],
 ) -> bool
     requires { shapes.now ≡ entities.now.structs }
-    ensures { IsTrue result ↔ IsTypedOp entities.now locals.now (Gep ty.now base.now indices.now) }
+    ensures { IsTrue result ↔ IsNoVoid ty.now × All (λ (o : operand). IsWide o.ty) indices.now
+        × Addresses entities.now ty.now indices.now }
 {
     if !is_no_void(ty) {
         return false;
     }
-    if !has_type(entities, locals, Scalar::Ptr, base) {
-        return false;
-    }
-    if !are_indices(entities, locals, indices) {
+    if !are_wide(indices) {
         return false;
     }
     addresses(entities, shapes, ty, indices)

@@ -1,24 +1,15 @@
 //! The rules of calls.
-ghost use Rattle.std.specs.Prelude.{◌≡◌, ◌↔◌, [], ◌∷◌, IsTrue, codes, map};
-ghost use Rattle.ds_ast.specs.declared.module.Param.{Param as param};
+ghost use Rattle.std.specs.Prelude.{◌≡◌, ◌↔◌, [], ◌∷◌, IsTrue};
 ghost use Rattle.ds_ast.specs.declared.ty.Scalar.TheVariants.{Ptr};
 ghost use Rattle.ds_ast.specs.declared.value.Value.TheVariants.{Global, Null};
 ghost use Rattle.ds_ast.specs.declared.instr.Op.TheVariants.{Call};
-ghost use Rattle.ds_shape.specs.Types.{IsArgument, IsCalled, IsExternal, IsThreadFunction, IsThreadStart, IsTypedOp, IsTypedOperand, ArePassed, CreateArguments, JoinArguments, Pairwise};
+ghost use Rattle.ds_shape.specs.Externals.{parameter_types, IsExternal, IsThreadFunction, TakesFunction, TakesNull};
+ghost use Rattle.ds_shape.specs.Types.{IsThreadStart, KeepsRule, IsPassedAs, ArePassed};
+ghost use Rattle.std.specs.List.{AllZip};
 
 use crate::values::is_typed_operand;
 use ds_ast::{Function, Name, Operand, Param, Scalar, Ty, Value};
-use ds_scope::{Entities, Locals};
-
-/// Whether a name is this text.
-fn is_called(name: &Name, text: &[u8]) -> bool
-    ensures { IsTrue result ↔ IsCalled text.now name.now }
-{
-    match name {
-        Name::Number(_) => false,
-        Name::Text(bytes) => bytes.as_slice() == text,
-    }
-}
+use ds_scope::{Entities, Locals, is_called};
 
 /// Whether a function is declared, with this name.
 fn is_external(function: &Function, name: &[u8]) -> bool
@@ -27,9 +18,26 @@ fn is_external(function: &Function, name: &[u8]) -> bool
     is_called(&function.name, name) && function.blocks.is_empty()
 }
 
+/// Whether the argument behind so many others is null: the second of `pthread_create` and of `pthread_join`.
+fn takes_null(function: &Function, n: usize) -> bool
+    ensures { IsTrue result ↔ TakesNull function.now n }
+{
+    n == 1
+        && (is_external(function, b"pthread_create".as_slice())
+            || is_external(function, b"pthread_join".as_slice()))
+}
+
+/// Whether the argument behind so many others is the name of the function that a thread runs: the third of
+/// `pthread_create`.
+fn takes_function(function: &Function, n: usize) -> bool
+    ensures { IsTrue result ↔ TakesFunction function.now n }
+{
+    n == 2 && is_external(function, b"pthread_create".as_slice())
+}
+
 /// Whether a function takes an address alone.
 fn takes_one_address(function: &Function) -> bool
-    ensures { IsTrue result ↔ (map (λ (p : param). p.ty) function.now.params ≡ Ptr ∷ []) }
+    ensures { IsTrue result ↔ (parameter_types function.now ≡ Ptr ∷ []) }
 {
     match function.params.as_slice() {
         [param] => param.ty == Scalar::Ptr,
@@ -80,67 +88,49 @@ fn is_null(value: &Value) -> bool
     matches!(value, Value::Null)
 }
 
-/// Whether an operand is written with this type, and has it.
-fn is_typed_as(entities: &Entities, locals: &Locals, ty: Scalar, operand: &Operand) -> bool
-    ensures { IsTrue result ↔ (operand.now.ty ≡ ty) × IsTypedOperand entities.now locals.now operand.now }
+/// Whether a value is null where the function takes null.
+fn is_null_where_taken(function: &Function, n: usize, value: &Value) -> bool
+    ensures { IsTrue result ↔ (TakesNull function.now n → value.now ≡ Null) }
 {
-    operand.ty == ty && is_typed_operand(entities, locals, operand)
-}
-
-/// Whether the arguments are those of `pthread_create`.
-fn are_create_arguments(entities: &Entities, locals: &Locals, arguments: &[Operand]) -> bool
-    ensures { IsTrue result ↔ CreateArguments entities.now locals.now arguments.now }
-{
-    match arguments {
-        [id, attributes, start, argument] => {
-            is_typed_as(entities, locals, Scalar::Ptr, id)
-                && attributes.ty == Scalar::Ptr
-                && is_null(&attributes.value)
-                && start.ty == Scalar::Ptr
-                && is_thread_start(entities, &start.value)
-                && is_typed_as(entities, locals, Scalar::Ptr, argument)
-        }
-        _ => false,
-    }
-}
-
-/// Whether the arguments are those of `pthread_join`.
-fn are_join_arguments(entities: &Entities, locals: &Locals, arguments: &[Operand]) -> bool
-    ensures { IsTrue result ↔ JoinArguments entities.now locals.now arguments.now }
-{
-    match arguments {
-        [id, result] => is_typed_as(entities, locals, Scalar::I64, id)
-            && result.ty == Scalar::Ptr
-            && is_null(&result.value),
-        _ => false,
-    }
-}
-
-/// Whether an argument has the type of the parameter.
-fn is_argument(entities: &Entities, locals: &Locals, argument: &Operand, param: &Param) -> bool
-    ensures { IsTrue result ↔ IsArgument entities.now locals.now argument.now param.now }
-{
-    is_typed_as(entities, locals, param.ty, argument)
-}
-
-/// Whether there are as many arguments as parameters, each of the parameter's type.
-fn are_arguments(
-    entities: &Entities,
-    locals: &Locals,
-    arguments: &[Operand],
-    params: &[Param],
-) -> bool
-    ensures { IsTrue result ↔ Pairwise (IsArgument entities.now locals.now) arguments.now params.now }
-{
-    if arguments.len() != params.len() {
-        return false;
-    }
-    for i in 0..arguments.len() {
-        if !is_argument(entities, locals, &arguments[i], &params[i]) {
-            return false;
-        }
+    if takes_null(function, n) {
+        return is_null(value);
     }
     true
+}
+
+/// Whether the argument behind so many others is what the function takes there.
+#[tactic(auto, using(crate::proofs::Passed::function_passed, crate::proofs::Passed::no_null, crate::proofs::Passed::operand_passed))]
+fn is_passed_as(
+    entities: &Entities,
+    locals: &Locals,
+    function: &Function,
+    n: usize,
+    argument: &Operand,
+) -> bool
+    ensures { IsTrue result ↔ IsPassedAs entities.now locals.now function.now n argument.now }
+{
+    if takes_function(function, n) {
+        return is_thread_start(entities, &argument.value);
+    }
+    if !is_null_where_taken(function, n, &argument.value) {
+        return false;
+    }
+    is_typed_operand(entities, locals, argument)
+}
+
+/// Whether the argument behind so many others has the type of its parameter, and is what the function takes there.
+fn is_argument(
+    entities: &Entities,
+    locals: &Locals,
+    function: &Function,
+    n: usize,
+    argument: &Operand,
+    param: &Param,
+) -> bool
+    ensures { IsTrue result ↔ (argument.now.ty ≡ param.now.ty)
+        × IsPassedAs entities.now locals.now function.now n argument.now }
+{
+    argument.ty == param.ty && is_passed_as(entities, locals, function, n, argument)
 }
 
 /// Whether a function is passed what it takes.
@@ -149,16 +139,20 @@ fn are_passed(
     locals: &Locals,
     function: &Function,
     arguments: &[Operand],
+    params: &[Param],
 ) -> bool
+    requires { params.now ≡ function.now.params }
     ensures { IsTrue result ↔ ArePassed entities.now locals.now function.now arguments.now }
 {
-    if is_external(function, b"pthread_create".as_slice()) {
-        return are_create_arguments(entities, locals, arguments);
+    if arguments.len() != params.len() {
+        return false;
     }
-    if is_external(function, b"pthread_join".as_slice()) {
-        return are_join_arguments(entities, locals, arguments);
+    for i in 0..arguments.len() {
+        if !is_argument(entities, locals, function, i, &arguments[i], &params[i]) {
+            return false;
+        }
     }
-    are_arguments(entities, locals, arguments, function.params.as_slice())
+    true
 }
 
 /// Whether a call keeps its rule.
@@ -169,12 +163,18 @@ pub fn is_typed_call(
     callee: &Name,
     arguments: &[Operand],
 ) -> bool
-    ensures { IsTrue result ↔ IsTypedOp entities.now locals.now (Call result_type.now callee.now arguments.now) }
+    ensures { IsTrue result ↔ KeepsRule entities.now locals.now (Call result_type.now callee.now arguments.now) }
 {
     match entities.function(callee) {
         Some(function) => {
             if *result_type == function.result {
-                return are_passed(entities, locals, function, arguments);
+                return are_passed(
+                    entities,
+                    locals,
+                    function,
+                    arguments,
+                    function.params.as_slice(),
+                );
             }
             false
         }

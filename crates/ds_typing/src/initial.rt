@@ -2,7 +2,8 @@
 ghost use Rattle.std.specs.Prelude.{◌≡◌, ◌↔◌, IsTrue, All, option_copied};
 ghost use Rattle.ds_ast.specs.declared.init.Init.{Array, Fields};
 ghost use Rattle.ds_ast.specs.declared.module.Module.{Module as whole};
-ghost use Rattle.ds_shape.specs.Types.{IsConstant, IsConstantOf, IsInitial, Pairwise, struct_fields};
+ghost use Rattle.ds_shape.specs.Types.{IsConstant, IsConstantOf, IsInitial, struct_fields};
+ghost use Rattle.std.specs.List.{AllZip};
 
 use crate::scalars::is_integer;
 use ds_ast::{Init, Scalar, Ty, Value};
@@ -107,7 +108,7 @@ fn are_elements(entities: &Entities, shapes: &Shapes, parts: &[Init], ty: &Ty) -
 #[cycle(is_initial)]
 fn are_fields(entities: &Entities, shapes: &Shapes, parts: &[Init], types: &[Ty]) -> bool
     requires { shapes.now ≡ entities.now.structs }
-    ensures { IsTrue result ↔ Pairwise (IsInitial entities.now) types.now parts.now }
+    ensures { IsTrue result ↔ AllZip (IsInitial entities.now) types.now parts.now }
 {
     if types.len() != parts.len() {
         return false;

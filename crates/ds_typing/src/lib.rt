@@ -5,6 +5,7 @@ mod addresses;
 mod calls;
 mod initial;
 mod numbers;
+mod operands;
 mod rules;
 mod scalars;
 mod values;

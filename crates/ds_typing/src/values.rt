@@ -1,11 +1,9 @@
 //! The types of values.
-ghost use Rattle.std.specs.Prelude.{◌≡◌, ◌↔◌, IsTrue, Some, All};
-ghost use Rattle.ds_ast.specs.declared.operand.Operand.{Operand as operand};
-ghost use Rattle.ds_ast.specs.declared.operand.Arm.{Arm as arm};
-ghost use Rattle.ds_shape.specs.Types.{Defines, HasType, IsTypedOperand, IsWide};
+ghost use Rattle.std.specs.Prelude.{◌≡◌, ◌↔◌, IsTrue, Some};
+ghost use Rattle.ds_shape.specs.Types.{Defines, HasType, IsTypedOperand};
 
-use crate::scalars::{is_integer, is_wide};
-use ds_ast::{Arm, Name, Operand, Scalar, Value};
+use crate::scalars::is_integer;
+use ds_ast::{Name, Operand, Scalar, Value};
 use ds_scope::{Entities, Locals};
 use ds_shape::LocalType;
 
@@ -41,31 +39,4 @@ pub fn is_typed_operand(entities: &Entities, locals: &Locals, operand: &Operand)
     ensures { IsTrue result ↔ IsTypedOperand entities.now locals.now operand.now }
 {
     has_type(entities, locals, operand.ty, &operand.value)
-}
-
-/// Whether the values of all arms have the type.
-pub fn are_typed_arms(entities: &Entities, locals: &Locals, ty: Scalar, arms: &[Arm]) -> bool
-    ensures { IsTrue result ↔ All (λ (a : arm). HasType entities.now locals.now ty a.value) arms.now }
-{
-    for arm in arms {
-        if !has_type(entities, locals, ty, &arm.value) {
-            return false;
-        }
-    }
-    true
-}
-
-/// Whether all indices of an address are integers of 8 bits or more.
-pub fn are_indices(entities: &Entities, locals: &Locals, indices: &[Operand]) -> bool
-    ensures { IsTrue result ↔ All (λ (o : operand). IsWide o.ty × IsTypedOperand entities.now locals.now o) indices.now }
-{
-    for index in indices {
-        if !is_wide(index.ty) {
-            return false;
-        }
-        if !is_typed_operand(entities, locals, index) {
-            return false;
-        }
-    }
-    true
 }

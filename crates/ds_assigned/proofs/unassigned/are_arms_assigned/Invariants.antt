@@ -1,6 +1,6 @@
 use Rattle.std.proofs.Common.{take}
 use Rattle.std.specs.Prelude.{All}
-use Rattle.ds_shape.specs.Accepted.{IsAssignedArm}
+use Rattle.ds_shape.specs.Placed.{IsAssignedArm}
 use Rattle.ds_shape.specs.Flow.{arms_of}
 use Rattle.ds_assigned.proofs.unassigned.are_arms_assigned.Given as goal
 

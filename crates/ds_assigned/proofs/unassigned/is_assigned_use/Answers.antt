@@ -5,4 +5,5 @@ use Rattle.ds_assigned.proofs.unassigned.is_assigned_use.Goals as goal
 
 pub returns-in-Local : goal.returns-in-Local
 returns-in-Local c =
-    local_told c.args.flow.now c.args.place.block c.args.place.index c.in-Local.name.now (value_of c.args.used) (ap value_of c.in-Local.is) c.is_assigned.result c.is_assigned.ensures
+    local_told c.args.flow.now c.args.place.block c.args.place.index c.in-Local.name.now (value_of c.args.used)
+    (ap value_of c.in-Local.is) c.is_assigned.result c.is_assigned.ensures

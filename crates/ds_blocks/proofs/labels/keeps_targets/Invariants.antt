@@ -1,7 +1,7 @@
 use Rattle.std.proofs.Common.{take}
 use Rattle.std.specs.Prelude.{All}
 use Rattle.ds_shape.specs.Flow.{targets_of}
-use Rattle.ds_shape.specs.Accepted.{IsTarget}
+use Rattle.ds_shape.specs.Placed.{IsTarget}
 use Rattle.ds_blocks.proofs.labels.keeps_targets.Given as goal
 
 abbrev pub invariant-loop-number : goal.invariant-loop-number

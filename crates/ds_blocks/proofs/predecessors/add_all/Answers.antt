@@ -9,13 +9,16 @@ loop-to-init c = none_added c.args.from c.args.targets.now c.args.predecessors.n
 
 pub add-requires : goal.add-requires
 add-requires c =
-    next_inside c.args.from c.loop-to.to-index (get_or c.args.targets.now c.loop-to.to-index 0) c.args.targets.now c.args.predecessors.now c.loop-to.predecessors c.loop-to-test.true refl c.requires
+    next_inside c.args.from c.loop-to.to-index (get_or c.args.targets.now c.loop-to.to-index 0) c.args.targets.now
+    c.args.predecessors.now c.loop-to.predecessors c.loop-to-test.true refl c.requires
     c.loop-to.invariant
 
 pub loop-to-preserved : goal.loop-to-preserved
 loop-to-preserved c =
-    one_added c.args.from c.loop-to.to-index (get_or c.args.targets.now c.loop-to.to-index 0) c.args.targets.now c.args.predecessors.now c.loop-to.predecessors c.add.new.self c.loop-to-test.true refl
+    one_added c.args.from c.loop-to.to-index (get_or c.args.targets.now c.loop-to.to-index 0) c.args.targets.now
+    c.args.predecessors.now c.loop-to.predecessors c.add.new.self c.loop-to-test.true refl
     c.loop-to.invariant c.in_ok-add.ensures
 
 pub returns : goal.returns
-returns c = subst (λ targets. AddsEdges c.args.from targets c.args.predecessors.now c.loop-to.predecessors) (take_all c.loop-to.to-index c.args.targets.now c.loop-to-test.false) c.loop-to.invariant
+returns c = subst (λ targets. AddsEdges c.args.from targets c.args.predecessors.now c.loop-to.predecessors)
+    (take_all c.loop-to.to-index c.args.targets.now c.loop-to-test.false) c.loop-to.invariant

@@ -1,6 +1,9 @@
-use Rattle.ds_check.proofs.WholeModule.{accepted}
+use Rattle.ds_check.proofs.FirstTold.{only_memory, first_told}
 use Rattle.ds_check.proofs.checks.check.Goals as goal
 
-pub returns-then-has_main-clause-accepted : goal.returns-then-has_main-clause-accepted
-returns-then-has_main-clause-accepted c =
-    accepted c.args.module.now c.requires.bounds c.requires.layout c.in-Ok-check_bodies.ensures.kept.0 c.in-Ok-check_bodies.ensures.kept.1 (c.has_main.ensures.0 c.if-has_main.true)
+pub returns-clause-only : goal.returns-clause-only
+returns-clause-only c = only_memory c.args.module.now c.first_fault.result c.first_fault.ensures.refused
+
+pub returns-clause-first : goal.returns-clause-first
+returns-clause-first c fault = first_told c.args.module.now c.first_fault.result fault c.first_fault.ensures.accepted
+    c.first_fault.ensures.refused

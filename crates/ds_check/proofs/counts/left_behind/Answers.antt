@@ -8,6 +8,8 @@ pub returns-in-None : goal.returns-in-None
 returns-in-None c =
     let less : c.loop-block.rest < length c.block-item.result.code = grind (arith, c.in-None.ensures, c.len.ensures) in
     let there : c.as_slice-block-items.result.now ≡ c.args.f.now.blocks = c.as_slice-block-items.ensures in
-    runs_out (λ (b : Block). b.code) c.args.f.now.blocks c.loop-block.block-index c.block-item.result c.loop-block.rest c.args.left
+    runs_out (λ (b : Block). b.code) c.args.f.now.blocks c.loop-block.block-index c.block-item.result c.loop-block.rest
+    c.args.left
     (subst (λ bs. c.loop-block.block-index < length bs) there c.loop-block-test.true)
-    (c.block-item.is ∙ ap (λ bs. slice_index_or bs c.loop-block.block-index c.block-item.result) there) c.loop-block.invariant less
+    (c.block-item.is ∙ ap (λ bs. slice_index_or bs c.loop-block.block-index c.block-item.result) there)
+    c.loop-block.invariant less

@@ -7,7 +7,9 @@ use Rattle.ds_check.proofs.functions.check_body.Goals as goal
 pub overflow_cast-result : goal.overflow_cast-result
 overflow_cast-result c =
     let first : BreaksFirst (KeepsAssigned c.args.function.now) c.args.function.now c.in-Some.i =
-    subst (λ o. IfSome o (BreaksFirst (KeepsAssigned c.args.function.now) c.args.function.now)) c.in-Some.is c.in_ok-i.ensures.some in
-    let inside : c.in-Some.i < length (placed_of c.args.function.now) = breaks_inside (KeepsAssigned c.args.function.now) c.args.function.now c.in-Some.i first in
+    subst (λ o. IfSome o (BreaksFirst (KeepsAssigned c.args.function.now) c.args.function.now)) c.in-Some.is
+    c.in_ok-i.ensures.some in
+    let inside : c.in-Some.i < length (placed_of c.args.function.now) =
+    breaks_inside (KeepsAssigned c.args.function.now) c.args.function.now c.in-Some.i first in
     let few : length (placed_of c.args.function.now) < 2 ^ 32 = c.requires.few.1 in
     omega (arith, inside, few)

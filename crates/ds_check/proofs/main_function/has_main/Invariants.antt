@@ -1,6 +1,6 @@
 use Rattle.std.proofs.Common.{ℕ, ◌<◌, slice_index_or}
 use Rattle.ds_ast.specs.declared.module.Function.{Function}
-use Rattle.ds_check.specs.Main.{IsMain}
+use Rattle.ds_shape.specs.Accepted.{IsMain}
 use Rattle.ds_check.proofs.main_function.has_main.Given as goal
 
 abbrev pub invariant-loop-f : goal.invariant-loop-f

@@ -1,7 +1,7 @@
 use Rattle.std.proofs.Common.{take}
 use Rattle.std.specs.Prelude.{All}
-use Rattle.ds_shape.specs.Accepted.{IsDefined}
-use Rattle.ds_shape.specs.Flow.{uses_of}
+use Rattle.ds_shape.specs.Placed.{IsDefined}
+use Rattle.ds_shape.specs.Operands.{uses_of}
 use Rattle.ds_check.proofs.operands.are_uses_defined.Given as goal
 
 abbrev pub invariant-loop-n : goal.invariant-loop-n

@@ -6,5 +6,6 @@ use Rattle.ds_scope.proofs.entities.put_functions.Given as goal
 -- the names that stand there now, and those that remain
 abbrev pub invariant-loop-function : goal.invariant-loop-function
 invariant-loop-function l =
-    (l.names ++ map (λ (x : Function). x.name) (drop l.function-index l.functions) ≡ l.fn.names ++ map (λ (x : Function). x.name) l.functions)
+    (l.names ++ map (λ (x : Function). x.name) (drop l.function-index l.functions) ≡ l.fn.names
+    ++ map (λ (x : Function). x.name) l.functions)
     × (AreDistinct l.fn.names → AreDistinct l.names)

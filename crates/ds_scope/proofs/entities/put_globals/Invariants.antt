@@ -6,5 +6,6 @@ use Rattle.ds_scope.proofs.entities.put_globals.Given as goal
 -- the names that stand there now, and those that remain
 abbrev pub invariant-loop-global : goal.invariant-loop-global
 invariant-loop-global l =
-    (l.names ++ map (λ (x : GlobalDef). x.name) (drop l.global-index l.globals) ≡ l.fn.names ++ map (λ (x : GlobalDef). x.name) l.globals)
+    (l.names ++ map (λ (x : GlobalDef). x.name) (drop l.global-index l.globals) ≡ l.fn.names
+    ++ map (λ (x : GlobalDef). x.name) l.globals)
     × (AreDistinct l.fn.names → AreDistinct l.names)

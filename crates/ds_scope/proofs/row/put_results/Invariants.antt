@@ -6,6 +6,9 @@ use Rattle.ds_scope.proofs.row.put_results.Given as goal
 -- what stands there now, and what remains
 abbrev pub invariant-loop-index : goal.invariant-loop-index
 invariant-loop-index l =
-    (l.row.names ++ names_of (code_entries l.block l.index (drop l.index l.code)) ≡ l.fn.row.names ++ names_of (code_entries l.block 0 l.code))
-    × (l.row.meanings.items ++ meanings_of (code_entries l.block l.index (drop l.index l.code)) ≡ l.fn.row.meanings.items ++ meanings_of (code_entries l.block 0 l.code))
+    (l.row.names ++ names_of (code_entries l.block l.index (drop l.index l.code)) ≡ l.fn.row.names
+    ++ names_of (code_entries l.block 0 l.code))
+    × (l.row.meanings.items
+    ++ meanings_of (code_entries l.block l.index (drop l.index l.code)) ≡ l.fn.row.meanings.items
+    ++ meanings_of (code_entries l.block 0 l.code))
     × (AreDistinct l.fn.row.names → AreDistinct l.row.names)

@@ -5,7 +5,9 @@ use Rattle.ds_shape.specs.Types.{IsInitial}
 use Rattle.ds_typing.proofs.initial.+is_initial.Given as goal
 
 abbrev pub invariant-are_elements-loop-part : goal.invariant-are_elements-loop-part
-invariant-are_elements-loop-part l = (k : ℕ) (d : Init) → k < l.part-index → IsInitial l.fn.entities l.fn.ty (slice_index_or l.fn.parts k d)
+invariant-are_elements-loop-part l =
+    (k : ℕ) (d : Init) → k < l.part-index → IsInitial l.fn.entities l.fn.ty (slice_index_or l.fn.parts k d)
 
 abbrev pub invariant-are_fields-loop-i : goal.invariant-are_fields-loop-i
-invariant-are_fields-loop-i l = (k : ℕ) (d : Ty) (e : Init) → k < l.i → IsInitial l.fn.entities (slice_index_or l.fn.types k d) (slice_index_or l.fn.parts k e)
+invariant-are_fields-loop-i l = (k : ℕ) (d : Ty) (e : Init) → k < l.i
+    → IsInitial l.fn.entities (slice_index_or l.fn.types k d) (slice_index_or l.fn.parts k e)

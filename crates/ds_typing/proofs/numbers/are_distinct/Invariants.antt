@@ -6,4 +6,5 @@ use Rattle.ds_typing.proofs.numbers.are_distinct.Given as goal
 
 -- the cases are distinct where those left are, and are not kept yet
 abbrev pub invariant-loop-case : goal.invariant-loop-case
-invariant-loop-case l = AreDistinctNumbers (map (λ (c : ℕ × Name). c.0) l.fn.cases) ↔ AreNew l.numbers (map (λ (c : ℕ × Name). c.0) (drop l.case-index l.fn.cases))
+invariant-loop-case l = AreDistinctNumbers (map (λ (c : ℕ × Name). c.0) l.fn.cases) ↔ AreNew l.numbers
+    (map (λ (c : ℕ × Name). c.0) (drop l.case-index l.fn.cases))

@@ -4,5 +4,7 @@ use Rattle.ds_blocks.proofs.predecessors.Predecessors.none.Goals as goal
 
 pub loop-block-preserved : goal.loop-block-preserved
 loop-block-preserved c =
-    ap (map (λ row. row.keys)) c.in_ok-push.ensures.items ∙ map-append (λ row. row.keys) c.loop-block.rows.items (c.new.result ∷ [])
-    ∙ ap (λ keys. map (λ row. row.keys) c.loop-block.rows.items ++ keys ∷ []) c.new.ensures.empty ∙ ap (λ rows. rows ++ [] ∷ []) c.loop-block.invariant ∙ replicate_more c.loop-block.block []
+    ap (map (λ row. row.keys)) c.in_ok-push.ensures.items ∙ map-append (λ row. row.keys) c.loop-block.rows.items
+    (c.new.result ∷ [])
+    ∙ ap (λ keys. map (λ row. row.keys) c.loop-block.rows.items ++ keys ∷ []) c.new.ensures.empty
+    ∙ ap (λ rows. rows ++ [] ∷ []) c.loop-block.invariant ∙ replicate_more c.loop-block.block []

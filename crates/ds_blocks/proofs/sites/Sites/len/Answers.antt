@@ -8,4 +8,5 @@ pub returns : goal.returns
 returns c =
     let len : c.len.result ≡ length c.self.inside.sites.items = search in
     let view : c.args.self.now ≡ c.self.inside.function.now = search in
-    len ∙ many_sites c.self.inside.function.now c.self.inside.sites.items c.self.invariant ∙ ap (λ f. length (placed_of f)) (sym view)
+    len ∙ many_sites c.self.inside.function.now c.self.inside.sites.items c.self.invariant
+    ∙ ap (λ f. length (placed_of f)) (sym view)

@@ -1,8 +1,0 @@
-use Rattle.std.proofs.Common.{ℕ, ◌<◌, slice_index_or}
-use Rattle.ds_ast.specs.declared.operand.Operand.{Operand}
-use Rattle.ds_ast.specs.declared.module.Param.{Param}
-use Rattle.ds_shape.specs.Types.{IsArgument}
-use Rattle.ds_typing.proofs.calls.are_arguments.Given as goal
-
-abbrev pub invariant-loop-i : goal.invariant-loop-i
-invariant-loop-i l = (k : ℕ) (d : Operand) (e : Param) → k < l.i → IsArgument l.fn.entities l.fn.locals (slice_index_or l.fn.arguments k d) (slice_index_or l.fn.params k e)
