@@ -1,6 +1,6 @@
 -- A module has a layout or one first fault, and with a layout its types fit.
 use Rattle.std.proofs.Common.{◌≡◌, ◌++◌, ℕ, Bool, true, false, List, [], ◌∷◌, Option, Some, None, refl, sym, ap, ◌∙◌, subst, inl, inr, cond, append_assoc}
-use Rattle.std.specs.Prelude.{All, map, option_map}
+use Rattle.std.specs.Prelude.{All, map, option_map, ◌⊎◌, Result, Ok, Err, IfOk, IfErr}
 use Rattle.std.proofs.lemmas.List.{map-append}
 use Rattle.std.proofs.lemmas.List.Elements.{All-head, All-tail}
 use Rattle.ds_ast.specs.declared.name.Name.{Name}
@@ -14,8 +14,10 @@ use Rattle.ds_names.specs.Names.{Among, AreDistinct, IsFirstTwice}
 use Rattle.ds_shape.specs.Sizes.{Extent, times, extent_by, struct_extent}
 use Rattle.ds_shape.specs.Types.{Stands}
 use Rattle.ds_shape.specs.Written.{Line, struct_line, global_line, function_line, lines_of, written_names, struct_names, IsFirst, IsUnknown, IsRecursive, WritesTooLarge, AnyTooLarge}
+use Rattle.ds_shape.specs.Accepted.{HasLayout}
 use Rattle.ds_shape.specs.Fault.{HasLines, HasDepth, HasShapeFault}
 use Rattle.ds_shape.specs.Laws.{LayoutsAreNotRefused, OneFirstFault, WrittenTypesFit, FieldsFit, ElementsFit}
+use Rattle.ds_shape.specs.declared.fault.ShapeFault.{ShapeFault}
 use Rattle.ds_shape.specs.declared.fault.ShapeFault.TheVariants.{TwiceType, Unknown, RecursiveType, TooLarge, Memory}
 use Rattle.ds_shape.proofs.Exist.{existing_extents}
 
@@ -165,3 +167,18 @@ unfolding hidden-the_row-Ty-0 hidden
 elements_fit structs count of (e, (d, is), none) =
     let x = inside_array structs count (extent_by (struct_extent structs d) of) e is in
     (x.0, (d, x.1), λ w. none (inr w))
+
+-- THE ANSWER OF A LAYOUT
+
+-- a module that has a layout is refused for want of memory alone
+pub only_memory : {A : Type 0} (m : Module) (r : Result A ShapeFault) → IfErr r (λ (f : ShapeFault). (f ≡ Memory) ⊎ HasShapeFault m f) → HasLayout m → IfErr r (λ (f : ShapeFault). f ≡ Memory)
+only_memory m (Ok x) refused layout = refused
+only_memory m (Err f) (inl memory) layout = memory
+only_memory m (Err f) (inr fault) layout = absurd (never_refused m f layout fault)
+
+-- and another is refused for its first fault or for want of memory
+pub first_or_memory : {A : Type 0} (m : Module) (P : A → Type 0) (r : Result A ShapeFault) → IfOk r (λ (x : A). HasLayout m × P x) →
+    IfErr r (λ (f : ShapeFault). (f ≡ Memory) ⊎ HasShapeFault m f) → (g : ShapeFault) → HasShapeFault m g → (r ≡ Err g) ⊎ (r ≡ Err Memory)
+first_or_memory m P (Ok x) laid_out refused g has = absurd (never_refused m g laid_out.0 has)
+first_or_memory m P (Err f) laid_out (inl memory) g has = inr (ap Err memory)
+first_or_memory m P (Err f) laid_out (inr fault) g has = inl (ap Err (one_fault m f g fault has))
