@@ -1,10 +1,7 @@
 pub mod Deeper
 pub mod Standing
 mod Tried
-pub mod TriedModule
-mod TriedFaults
-mod TriedFlow
-mod TriedTypes
+mod TriedModule
 pub mod Exist
 pub mod Caps
 pub mod Arrays
