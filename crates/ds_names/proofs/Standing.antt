@@ -1,15 +1,14 @@
 -- Which names stand among others, where, and which lists of them are distinct.
-use Rattle.std.proofs.Common.{◌≡◌, ◌<◌, ℕ, zero, suc, Bool, true, false, List, [], ◌∷◌, ◌++◌, length, get_or, take, drop, drop-cons, ◌⊎◌, inl, inr, Option, Some, None, refl, sym, ap, ◌∙◌, subst, cond, true≢false, arith}
+use Rattle.std.proofs.Common.{◌≡◌, ◌<◌, ℕ, zero, suc, Bool, true, false, List, [], ◌∷◌, ◌++◌, length, get_or, ◌⊎◌, inl, inr, Option, Some, None, refl, sym, ap, ◌∙◌, subst, cond, true≢false, arith}
 use Rattle.std.specs.Prelude.{option_map}
-use Rattle.std.proofs.lemmas.List.{take-append-drop}
 use Rattle.std.specs.Bool.{Decides}
 use Rattle.std.proofs.lemmas.Bool.Decides.{Decides-eqb}
 use Rattle.std.proofs.lemmas.Slice.Eq.{bytes_eq-Decides}
 use Rattle.ds_ast.specs.declared.name.Name.{Name}
 use Rattle.ds_ast.specs.declared.name.Name.TheVariants.{Number, Text}
 use Rattle.ds_ast.specs.Bounds.{is_name}
-use Rattle.ds_names.specs.Names.{Among, AreDistinct, IsFirstTwice, place_of}
-use Rattle.ds_names.specs.Laws.{PlacesAreExact, PlacesAreUnique, DistinctBehind, DistinctBefore, DistinctHaveNoneTwice}
+use Rattle.ds_names.specs.Names.{Among, AreDistinct, place_of}
+use Rattle.ds_names.specs.Laws.{PlacesAreExact, PlacesAreUnique}
 
 -- NAMES
 
@@ -28,11 +27,6 @@ names_decide (Text a) (Number b) = (λ e. absurd (true≢false (sym e)), λ e. c
 names_decide (Text a) (Text b) = let d = bytes_eq-Decides a b in (λ e. ap Text (d.0 e), λ e. d.1 (ap spelling e))
 
 -- AMONG
-
-among_left : (n : Name) (xs ys : List Name) → Among n xs → Among n (xs ++ ys)
-among_left n [] ys a = absurd a
-among_left n (x ∷ xs) ys (inl e) = inl e
-among_left n (x ∷ xs) ys (inr a) = inr (among_left n xs ys a)
 
 -- what stands among names and one more
 among_behind : (n : Name) (xs : List Name) (last : Name) → Among n (xs ++ last ∷ []) → Among n xs ⊎ (last ≡ n)
@@ -56,26 +50,10 @@ not_both : (x last : Name) (xs : List Name) → (Among x xs → ⊥) → (x ≡ 
 not_both x last xs fresh other (inl a) = fresh a
 not_both x last xs fresh other (inr e) = other (sym e)
 
-pub one_behind : DistinctBehind
+pub one_behind : (names : List Name) (name : Name) → AreDistinct names → (Among name names → ⊥) → AreDistinct (names ++ name ∷ [])
 one_behind [] name distinct fresh = (λ a. a, tt)
 one_behind (x ∷ xs) name (first, rest) fresh =
     (λ a. not_both x name xs first (λ e. fresh (inl e)) (among_behind x xs name a), one_behind xs name rest (λ a. fresh (inr a)))
-
-pub first_ones : DistinctBefore
-first_ones [] ys distinct = tt
-first_ones (x ∷ xs) ys (first, rest) = (λ a. first (among_left x xs ys a), first_ones xs ys rest)
-
-among_middle : (before after : List Name) (name : Name) → Among name (before ++ name ∷ after)
-among_middle [] after name = inl refl
-among_middle (n ∷ before) after name = inr (among_middle before after name)
-
-not_twice : (before after : List Name) (name : Name) → AreDistinct (before ++ name ∷ after) → Among name before → ⊥
-not_twice [] after name distinct a = a
-not_twice (n ∷ before) after name (first, rest) (inl e) = first (subst (λ m. Among m (before ++ name ∷ after)) (sym e) (among_middle before after name))
-not_twice (n ∷ before) after name (first, rest) (inr a) = not_twice before after name rest a
-
-pub none_twice : DistinctHaveNoneTwice
-none_twice names name distinct twice = not_twice twice.before twice.after name (subst AreDistinct twice.split distinct) twice.first_time
 
 -- PLACES
 
@@ -130,13 +108,3 @@ unique_places (n ∷ names) name d zero distinct inside e = ap (λ b. cond b (So
 unique_places (n ∷ names) name d (suc i) (first, rest) inside e =
     next_by (is_name n name) (place_of names name) i (λ is. first (among_same n name names ((names_decide n name).0 is) (among_at names name d i (omega arith) e)))
     (unique_places names name d i rest (omega arith) e)
-
--- the name at a place that stands before it stands there a second time
-pub twice_at : (names row : List Name) (at : ℕ) (name : Name) → at < length names → name ≡ get_or names at name → row ≡ take at names → AreDistinct (take at names) → Among name row → IsFirstTwice names name
-twice_at names row at name inside is so_far distinct there = record {
-  before = take at names;
-  after = drop (suc at) names;
-  split = sym (take-append-drop at names) ∙ ap (λ ns. take at names ++ ns) (drop-cons names at name inside ∙ ap (λ n. n ∷ drop (suc at) names) (sym is));
-  first_time = subst (λ ns. Among name ns) so_far there;
-  none_before = distinct;
-}

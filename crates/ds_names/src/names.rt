@@ -1,6 +1,6 @@
 //! Names in a row.
-ghost use Rattle.std.specs.Prelude.{◌≡◌, IsTrue, IsFalse, [], ◌∷◌, ◌++◌, length, None, OnErr, IfOk, MatchResult};
-ghost use Rattle.ds_names.specs.Names.{Among, AreDistinct, IsFirstTwice, place_of};
+ghost use Rattle.std.specs.Prelude.{◌≡◌, IsTrue, IsFalse, [], ◌∷◌, ◌++◌, length, None, OnErr, IfOk};
+ghost use Rattle.ds_names.specs.Names.{Among, AreDistinct, place_of};
 
 use crate::places::Places;
 use ds_ast::Name;
@@ -77,20 +77,4 @@ impl<'a> Names<'a> {
             }
         }
     }
-}
-
-/// These names in a row, or the first that stands there a second time. The outer `Err` comes only where there is not enough memory.
-pub fn each_once<'a>(
-    alloc: Global,
-    names: &'a [Name],
-) -> Result<Result<Names<'a>, &'a Name>, AllocError>
-    ensures { IfOk result (λ answer. MatchResult answer (λ row. (row ≡ names.now) × AreDistinct names.now) (λ name. IsFirstTwice names.now name.now)) }
-{
-    let mut row = Names::new(alloc);
-    for name in names {
-        if !row.put(name)? {
-            return Ok(Err(name));
-        }
-    }
-    Ok(Ok(row))
 }
