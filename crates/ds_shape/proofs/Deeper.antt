@@ -34,7 +34,7 @@ keep_fields g h k at align (t ∷ ts) e is = keep_then
     (λ x. fields_extent h (rounded at x.align + x.size) (max align x.align) ts)
     (g t) (h t) e (k t) (λ x. keep_fields g h k (rounded at x.align + x.size) (max align x.align) ts) is
 
-keep_offset : (g h : Ty → Option Extent) → Keeps g h → (at n : ℕ) → Keeps (field_offset g at n) (field_offset h at n)
+pub keep_offset : (g h : Ty → Option Extent) → Keeps g h → (at n : ℕ) → Keeps (field_offset g at n) (field_offset h at n)
 keep_offset g h k at n [] a is = is
 keep_offset g h k at zero (t ∷ ts) a is = keep_then (λ x. Some (rounded at x.align)) (λ x. Some (rounded at x.align)) (g t) (h t) a (k t) (λ x y e. e) is
 keep_offset g h k at (suc n) (t ∷ ts) a is = keep_then

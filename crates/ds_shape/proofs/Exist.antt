@@ -164,6 +164,40 @@ reaches structs name [] x c a = absurd a
 reaches structs name (n ∷ ns) x c (inl e) = ([], subst (λ (y : Name). Holds structs name y) e c.0)
 reaches structs name (n ∷ ns) x c (inr a) = let r = reaches structs n ns x c.1 a in (n ∷ r.0, (c.0, r.1))
 
+-- names that have lines, of which each struct holds only such ones, and none itself
+module _ (structs : List StructDef) (Known : Name → Type 0) (lined : (n : Name) → Known n → Among n (struct_names structs)) (closed : (n held : Name) → Known n → Holds structs n held → Known held)
+    (apart : (n : Name) → Known n → IsRecursive structs n → ⊥) where
+  abbrev ChainFrom : ℕ → Name → Type 0
+  ChainFrom d name = (ns : List Name) × Chain structs name ns × ((x : Name) → Among x ns → Known x) × (length ns ≡ d)
+
+  chain : (d : ℕ) (name : Name) → Known name → struct_extent structs d name ≡ None → ChainFrom d name
+  chain zero name k is = ([], tt, λ x a. absurd a, refl)
+  chain (suc d) name k is = elim (line_or_none structs name) [
+    | inl unknown ↦ absurd (unknown (lined name k))
+    | inr found ↦
+        let x = missing_struct structs d name found.0 found.1 is in
+        let known = closed name x.0 k x.1 in
+        let c = chain d x.0 known x.2 in
+        (x.0 ∷ c.0, (x.1, c.1), λ y a. elim a [ inl e ↦ subst Known e known | inr b ↦ c.2 y b ], ap suc c.3)
+  ]
+
+  distinct_chain : (name : Name) (ns : List Name) → Chain structs name ns → Known name → ((x : Name) → Among x ns → Known x) → AreDistinct (name ∷ ns)
+  distinct_chain name [] c k ks = (λ a. a, tt)
+  distinct_chain name (n ∷ ns) c k ks = (
+    λ a. apart name k (reaches structs name (n ∷ ns) name c a),
+    distinct_chain n ns c.1 (ks n (inl refl)) (λ x a. ks x (inr a)),
+  )
+
+  -- as many structs deep as there are lines each has its extent
+  pub none_missing : (name : Name) → Known name → struct_extent structs (length structs) name ≡ None → ⊥
+  none_missing name k is =
+      let c = chain (length structs) name k is in
+      let h : length (name ∷ c.0) ≤ length (struct_names structs) =
+      no_more (name ∷ c.0) (struct_names structs) (distinct_chain name c.0 c.1 k c.2) (λ x a. elim a [ inl e ↦ subst (λ (n : Name). Among n (struct_names structs)) e (lined name k) | inr b ↦ lined x (c.2 x b) ]) in
+      let l : length (struct_names structs) ≡ length structs = length-map structs (λ (s : StructDef). s.name) in
+      let n : length c.0 ≡ length structs = c.3 in
+      omega (arith, h, l, n)
+
 module _ (m : Module) (lines : HasLines m) where
   abbrev pub Known : Name → Type 0
   Known name = Among name (struct_names m.structs)
@@ -181,36 +215,9 @@ module _ (m : Module) (lines : HasLines m) where
       subst (λ (ls : List Line). Among held (names_in ls)) (sym (append_assoc (map struct_line m.structs) globals functions)) (held_is_written m.structs (globals ++ functions) name held holds)
 
 module _ (m : Module) (layout : HasDepth m) where
-  abbrev ChainFrom : ℕ → Name → Type 0
-  ChainFrom d name = (ns : List Name) × Chain m.structs name ns × ((x : Name) → Among x ns → Known m layout.lines x) × (length ns ≡ d)
-
-  chain : (d : ℕ) (name : Name) → Known m layout.lines name → struct_extent m.structs d name ≡ None → ChainFrom d name
-  chain zero name k is = ([], tt, λ x a. absurd a, refl)
-  chain (suc d) name k is = elim (line_or_none m.structs name) [
-    | inl unknown ↦ absurd (unknown k)
-    | inr found ↦
-        let x = missing_struct m.structs d name found.0 found.1 is in
-        let known = known_written m layout.lines x.0 (held_in_module m layout.lines name x.0 x.1) in
-        let c = chain d x.0 known x.2 in
-        (x.0 ∷ c.0, (x.1, c.1), λ y a. elim a [ inl e ↦ subst (Known m layout.lines) e known | inr b ↦ c.2 y b ], ap suc c.3)
-  ]
-
-  distinct_chain : (name : Name) (ns : List Name) → Chain m.structs name ns → Known m layout.lines name → ((x : Name) → Among x ns → Known m layout.lines x) → AreDistinct (name ∷ ns)
-  distinct_chain name [] c k ks = (λ a. a, tt)
-  distinct_chain name (n ∷ ns) c k ks = (
-    λ a. all_among (λ x. IsRecursive m.structs x → ⊥) (struct_names m.structs) name layout.no_recursive_type k (reaches m.structs name (n ∷ ns) name c a),
-    distinct_chain n ns c.1 (ks n (inl refl)) (λ x a. ks x (inr a)),
-  )
-
-  -- as many structs deep as there are lines each has its extent
   pub none_lacks : (name : Name) → Known m layout.lines name → struct_extent m.structs (length m.structs) name ≡ None → ⊥
-  none_lacks name k is =
-      let c = chain (length m.structs) name k is in
-      let h : length (name ∷ c.0) ≤ length (struct_names m.structs) =
-      no_more (name ∷ c.0) (struct_names m.structs) (distinct_chain name c.0 c.1 k c.2) (λ x a. elim a [ inl e ↦ subst (Known m layout.lines) e k | inr b ↦ c.2 x b ]) in
-      let l : length (struct_names m.structs) ≡ length m.structs = length-map m.structs (λ (s : StructDef). s.name) in
-      let n : length c.0 ≡ length m.structs = c.3 in
-      omega (arith, h, l, n)
+  none_lacks = none_missing m.structs (Known m layout.lines) (λ n k. k) (λ n held k holds. known_written m layout.lines held (held_in_module m layout.lines n held holds))
+      (λ n k r. all_among (λ x. IsRecursive m.structs x → ⊥) (struct_names m.structs) n layout.no_recursive_type k r)
 
   -- a type whose struct types are known has an extent
   pub extent_known : (t : Ty) → ((n : Name) → Among n (struct_in t) → Known m layout.lines n) → (e : Extent) × HasExtent m.structs t e
@@ -219,8 +226,8 @@ module _ (m : Module) (layout : HasDepth m) where
     | inr found ↦ (found.0, (length m.structs, found.1))
   ]
 
-  extent_of : (l : Line) (t : Ty) → Stands l (lines_of m) → Stands t l.types → (e : Extent) × HasExtent m.structs t e
-  extent_of l t stands in_line = elim (found_or_not (extent_by (struct_extent m.structs (length m.structs)) t)) [
+  written_extent : (l : Line) (t : Ty) → Stands l (lines_of m) → Stands t l.types → (e : Extent) × HasExtent m.structs t e
+  written_extent l t stands in_line = elim (found_or_not (extent_by (struct_extent m.structs (length m.structs)) t)) [
     | inl lacks ↦
         let x = missing_type (struct_extent m.structs (length m.structs)) t lacks in
         let in_types = among_flat struct_in l.types x.0 t in_line x.1 in
@@ -233,7 +240,7 @@ pub depth_of : (m : Module) → HasLayout m → HasDepth m
 depth_of m layout = record { lines = record { no_twice_type = layout.no_twice_type; no_unknown = layout.no_unknown }; no_recursive_type = layout.no_recursive_type }
 
 pub existing_extents : ExtentsExist
-existing_extents m l t layout stands in_line = extent_of m (depth_of m layout) l t stands in_line
+existing_extents m l t layout stands in_line = written_extent m (depth_of m layout) l t stands in_line
 
 -- OFFSETS
 
@@ -288,9 +295,9 @@ module _ (m : Module) (layout : HasDepth m) (s : StructDef) (stands : Stands s m
     | inr found ↦ found
   ]
 
-  offset_of : (n : ℕ) → n < length s.fields → (offset : ℕ) × HasOffset m.structs s.name n offset
-  offset_of n inside =
+  offset_found : (n : ℕ) → n < length s.fields → (offset : ℕ) × HasOffset m.structs s.name n offset
+  offset_found n inside =
       let x = offset_among extent_in 0 n s.fields field_extent inside in (x.0, (length m.structs, rw its_fields x.1))
 
 pub existing_offsets : OffsetsExist
-existing_offsets m s n layout stands inside = offset_of m (depth_of m layout) s stands n inside
+existing_offsets m s n layout stands inside = offset_found m (depth_of m layout) s stands n inside

@@ -20,17 +20,17 @@ use Rattle.std.proofs.lemmas.Option.{option_and_then_some}
 
 -- SIZES
 
-abbrev line : ℕ → List Ty → StructDef
+abbrev pub line : ℕ → List Ty → StructDef
 line n fields = record { name = Number n; fields = fields }
 
-abbrev named : ℕ → Ty
+abbrev pub named : ℕ → Ty
 named n = ty.Struct (Number n)
 
-abbrev extent : ℕ → ℕ → Extent
+abbrev pub extent : ℕ → ℕ → Extent
 extent size align = record { size = size; align = align }
 
 -- %0 = { i8, i32 }, %1 = { i32, i8 }, %2 = { }, %3 = { i8, i16 }, %4 = { %1, ptr, [2 x %3] }, %5 = { i8, %4, i1 }, %6 = { i8, %2, void, [0 x i64], i1 }
-abbrev table : List StructDef
+abbrev pub table : List StructDef
 table =
     line 0 (ty.One I8 ∷ ty.One I32 ∷ [])
     ∷ line 1 (ty.One I32 ∷ ty.One I8 ∷ [])

@@ -1,5 +1,8 @@
 pub mod Sizes
 pub mod Written
+pub mod Address
+pub mod Image
+pub mod Site
 pub mod Types
 pub mod Flow
 pub mod Accepted
