@@ -1,15 +1,16 @@
 -- The statements of the laws.
-use Rattle.std.specs.Prelude.{◌≡◌, ◌<◌, ◌↔◌, ℕ, List, length, Some}
+use Rattle.std.specs.Prelude.{◌≡◌, ◌<◌, ◌↔◌, ◌++◌, ℕ, List, length, Some}
 use Rattle.ds_ast.specs.declared.name.Name.{Name}
 use Rattle.ds_ast.specs.declared.ty.Ty.{Ty}
 use Rattle.ds_ast.specs.declared.ty.Ty as ty
 use Rattle.ds_ast.specs.declared.module.Module.{Module}
 use Rattle.ds_ast.specs.declared.module.StructDef.{StructDef}
+use Rattle.ds_ast.specs.declared.module.GlobalDef.{GlobalDef}
 use Rattle.ds_shape.specs.Sizes.{Extent, HasExtent, HasOffset, extent_of, offset_of}
 use Rattle.ds_shape.specs.Written.{Line, lines_of}
 use Rattle.ds_shape.specs.Types.{Stands, Addresses}
 use Rattle.ds_shape.specs.Address.{Step, address_steps}
-use Rattle.ds_shape.specs.Image.{image_of}
+use Rattle.ds_shape.specs.Image.{location_of, words_of_global, address_of, image_of}
 use Rattle.ds_ast.specs.declared.operand.Operand.{Operand}
 use Rattle.ds_ast.specs.Bounds.{fields_of}
 use Rattle.ds_shape.specs.Accepted.{HasLayout, HasWords}
@@ -78,3 +79,16 @@ AddressesAreSteps = (m : Module) (t : Ty) (indices : List Operand) →
 abbrev pub WordsAreCounted : Type 0
 WordsAreCounted = (address : ℕ → ℕ) (m : Module) (n : ℕ) → HasLayout m →
     HasWords m.structs m.globals n ↔ (n ≡ length (image_of address m))
+
+-- so many of the words with which the globals begin stand before those of a global as its location says
+pub record IsLaidOut (address : ℕ → ℕ) (m : Module) (g : GlobalDef) (location : ℕ) : Type 0 where
+  pub front : List ℕ
+  pub back : List ℕ
+  pub image : image_of address m ≡ front ++ words_of_global m.structs (address_of address m) g ++ back
+  pub before : length front ≡ location
+
+-- where a name has a location, a global has the name, and its words stand there
+abbrev pub GlobalsAreLaidOut : Type 0
+GlobalsAreLaidOut = (address : ℕ → ℕ) (m : Module) (name : Name) (location : ℕ) →
+    location_of m.structs m.globals name ≡ Some location →
+    (g : GlobalDef) × Stands g m.globals × (g.name ≡ name) × IsLaidOut address m g location

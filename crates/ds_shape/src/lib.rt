@@ -1,7 +1,7 @@
 //! What the sizes of types are, the layout of a module's types, and which modules are accepted.
 #![tactic(auto)]
 
-ghost use Rattle.ds_shape.specs.Laws.{ExtentsAreUnique, ExtentsExist, ExtentsAreComputed, OffsetsAreUnique, OffsetsExist, OffsetsAreComputed, LayoutsAreNotRefused, OneFirstFault, WrittenTypesFit, FieldsFit, ElementsFit, AddressesAreSteps, WordsAreCounted};
+ghost use Rattle.ds_shape.specs.Laws.{ExtentsAreUnique, ExtentsExist, ExtentsAreComputed, OffsetsAreUnique, OffsetsExist, OffsetsAreComputed, LayoutsAreNotRefused, OneFirstFault, WrittenTypesFit, FieldsFit, ElementsFit, AddressesAreSteps, WordsAreCounted, GlobalsAreLaidOut};
 
 mod extents;
 mod fault;
@@ -80,4 +80,9 @@ pub fn addresses_are_steps()
 /// The globals of a module that has a layout begin with as many words as they have.
 pub fn words_are_counted()
     ensures { WordsAreCounted }
+{}
+
+/// And each has its own from its location on.
+pub fn globals_are_laid_out()
+    ensures { GlobalsAreLaidOut }
 {}
