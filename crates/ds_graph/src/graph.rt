@@ -4,7 +4,8 @@ ghost use Rattle.std.specs.Prelude.{◌≡◌, ◌<◌, [], ◌∷◌, ◌++◌,
 use std::alloc::{AllocError, Global};
 use std::marker::Model;
 
-/// A graph on the numbers below its length. Contracts see, for each node from 0 on, the list of nodes to which its edges lead.
+/// A graph on the numbers below its length. Contracts see, for each node from 0 on, the list of nodes to which its
+/// edges lead.
 #[derive(Drop)]
 pub struct Graph {
     edges: Vec<Vec<u32>>,

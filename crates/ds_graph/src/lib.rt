@@ -1,4 +1,5 @@
-//! Graphs, an order of their nodes along their edges, the first node that is on a cycle, and which nodes stand on every path to which others.
+//! Graphs, an order of their nodes along their edges, the first node that is on a cycle, and which nodes stand on
+//! every path to which others.
 #![tactic(auto)]
 
 mod certificate;

@@ -11,4 +11,6 @@ PlacesAreExact =
 
 -- among distinct names the place of a name is where it stands
 abbrev pub PlacesAreUnique : Type 0
-PlacesAreUnique = (names : List Name) (name d : Name) (i : ℕ) → AreDistinct names → i < length names → get_or names i d ≡ name → place_of names name ≡ Some i
+PlacesAreUnique =
+    (names : List Name) (name d : Name) (i : ℕ) → AreDistinct names → i < length names → get_or names i d ≡ name →
+    place_of names name ≡ Some i

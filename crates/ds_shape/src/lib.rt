@@ -27,7 +27,8 @@ pub fn offsets_are_unique()
     ensures { OffsetsAreUnique }
 {}
 
-/// What a type's size and alignment are at some depth of structs is found as many structs deep as the module has lines.
+/// What a type's size and alignment are at some depth of structs is found as many structs deep as the module has
+/// lines.
 pub fn extents_are_computed()
     ensures { ExtentsAreComputed }
 {}

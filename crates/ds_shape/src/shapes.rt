@@ -46,9 +46,9 @@ impl<'a> Model for Shapes<'a> {
 
 /// The layout of a module: of its types, how many bytes each has, and where the fields of each struct begin.
 ///
-/// A module has a layout or a first fault, which is told; `Memory` comes only where there is not enough of it, or where there are 2^32 struct lines. The work
-/// for a text of n bytes is in the order of n log n, and the stack that it takes is in the order of the arrays that nest in one type, at most 32 within a
-/// module's bounds.
+/// A module has a layout or a first fault, which is told; `Memory` comes only where there is not enough of it, or
+/// where there are 2^32 struct lines. The work for a text of n bytes is in the order of n log n, and the stack that it
+/// takes is in the order of the arrays that nest in one type, at most 32 within a module's bounds.
 pub fn layout<'a>(alloc: Global, whole: &'a Module) -> Result<Shapes<'a>, ShapeFault>
     ensures laid_out { IfOk result (λ shapes. HasLayout whole.now × (shapes ≡ whole.now.structs)) }
     ensures only { HasLayout whole.now → IfErr result (λ fault. fault ≡ faults.Memory) }

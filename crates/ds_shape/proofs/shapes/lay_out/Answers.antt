@@ -24,7 +24,8 @@ returns-in_err-refuse_unknown-clause-refused c =
     let lines = lines_in c.as_slice-written.result.now in
     let written : lines ≡ lines_of m = ap lines_in c.as_slice-written.ensures.value ∙ c.in_ok-lines.ensures in
     let f = c.in_err-refuse_unknown.field-0.0 in
-    passed_refused c.from_residual-in_err-refuse_unknown.result (λ (g : ShapeFault). (g ≡ Memory) ⊎ HasShapeFault m g) f c.from_residual-in_err-refuse_unknown.ensures
+    passed_refused c.from_residual-in_err-refuse_unknown.result (λ (g : ShapeFault). (g ≡ Memory) ⊎ HasShapeFault m g)
+    f c.from_residual-in_err-refuse_unknown.ensures
     (refused_unknown m distinct names named lines written f c.in_err-refuse_unknown.ensures.err)
 
 pub returns-in_err-order-clause-refused : goal.returns-in_err-order-clause-refused
@@ -37,8 +38,10 @@ returns-in_err-order-clause-refused c =
     let lines = lines_in c.as_slice-written.result.now in
     let written : lines ≡ lines_of m = ap lines_in c.as_slice-written.ensures.value ∙ c.in_ok-lines.ensures in
     let f = c.in_err-order.field-0.0 in
-    passed_refused c.from_residual-in_err-order.result (λ (g : ShapeFault). (g ≡ Memory) ⊎ HasShapeFault m g) f c.from_residual-in_err-order.ensures
-    (refused_recursive m distinct names named lines written c.in_ok-refuse_unknown.ensures.ok f (subst (λ (s : List StructDef). (f ≡ Memory) ⊎ IsCycleFault s f) seen c.in_err-order.ensures.err))
+    passed_refused c.from_residual-in_err-order.result (λ (g : ShapeFault). (g ≡ Memory) ⊎ HasShapeFault m g) f
+    c.from_residual-in_err-order.ensures
+    (refused_recursive m distinct names named lines written c.in_ok-refuse_unknown.ensures.ok f
+    (subst (λ (s : List StructDef). (f ≡ Memory) ⊎ IsCycleFault s f) seen c.in_err-order.ensures.err))
 
 pub returns-in_err-refuse_too_large-clause-refused : goal.returns-in_err-refuse_too_large-clause-refused
 returns-in_err-refuse_too_large-clause-refused c =
@@ -50,13 +53,18 @@ returns-in_err-refuse_too_large-clause-refused c =
     let lines = lines_in c.as_slice-written.result.now in
     let written : lines ≡ lines_of m = ap lines_in c.as_slice-written.ensures.value ∙ c.in_ok-lines.ensures in
     let order = c.in_ok-order.order.items in
-    let ordered : IsOrder (holdings (struct_names m.structs) m.structs) order = subst (λ (s : List StructDef). IsOrder (holdings (struct_names s) s) order) seen c.in_ok-order.ensures.ok in
+    let ordered : IsOrder (holdings (struct_names m.structs) m.structs) order =
+    subst (λ (s : List StructDef). IsOrder (holdings (struct_names s) s) order) seen c.in_ok-order.ensures.ok in
     let extents = c.in_ok-extents.extents.items in
-    let right : AreRight m.structs extents = subst (λ (s : List StructDef). AreRight s extents) seen c.in_ok-extents.ensures.right in
+    let right : AreRight m.structs extents =
+    subst (λ (s : List StructDef). AreRight s extents) seen c.in_ok-extents.ensures.right in
     let f = c.in_err-refuse_too_large.field-0.0 in
-    passed_refused c.from_residual-in_err-refuse_too_large.result (λ (g : ShapeFault). (g ≡ Memory) ⊎ HasShapeFault m g) f c.from_residual-in_err-refuse_too_large.ensures
-    (refused_too_large m distinct names named lines written c.in_ok-refuse_unknown.ensures.ok order ordered extents right f
-    (subst (λ (es : List CappedExtent). (f ≡ Memory) ⊎ IsLargeFault names es lines f) c.as_slice-sizes.ensures.value c.in_err-refuse_too_large.ensures.err))
+    passed_refused c.from_residual-in_err-refuse_too_large.result
+    (λ (g : ShapeFault). (g ≡ Memory) ⊎ HasShapeFault m g) f c.from_residual-in_err-refuse_too_large.ensures
+    (refused_too_large m distinct names named lines written c.in_ok-refuse_unknown.ensures.ok order ordered extents
+    right f
+    (subst (λ (es : List CappedExtent). (f ≡ Memory) ⊎ IsLargeFault names es lines f) c.as_slice-sizes.ensures.value
+    c.in_err-refuse_too_large.ensures.err))
 
 pub returns-clause-laid_out : goal.returns-clause-laid_out
 returns-clause-laid_out c =
@@ -68,10 +76,13 @@ returns-clause-laid_out c =
     let lines = lines_in c.as_slice-written.result.now in
     let written : lines ≡ lines_of m = ap lines_in c.as_slice-written.ensures.value ∙ c.in_ok-lines.ensures in
     let order = c.in_ok-order.order.items in
-    let ordered : IsOrder (holdings (struct_names m.structs) m.structs) order = subst (λ (s : List StructDef). IsOrder (holdings (struct_names s) s) order) seen c.in_ok-order.ensures.ok in
+    let ordered : IsOrder (holdings (struct_names m.structs) m.structs) order =
+    subst (λ (s : List StructDef). IsOrder (holdings (struct_names s) s) order) seen c.in_ok-order.ensures.ok in
     let extents = c.in_ok-extents.extents.items in
-    let right : AreRight m.structs extents = subst (λ (s : List StructDef). AreRight s extents) seen c.in_ok-extents.ensures.right in (
+    let right : AreRight m.structs extents =
+    subst (λ (s : List StructDef). AreRight s extents) seen c.in_ok-extents.ensures.right in (
       has_layout m distinct names named lines written c.in_ok-refuse_unknown.ensures.ok order ordered extents right
-          (subst (λ (es : List CappedExtent). All (λ (l : Line). IsLarge names es l → ⊥) lines) c.as_slice-sizes.ensures.value c.in_ok-refuse_too_large.ensures.ok),
+          (subst (λ (es : List CappedExtent). All (λ (l : Line). IsLarge names es l → ⊥) lines)
+          c.as_slice-sizes.ensures.value c.in_ok-refuse_too_large.ensures.ok),
       seen,
     )

@@ -8,4 +8,5 @@ returns-clause-only c = only_memory c.args.whole.now c.lay_out.result c.lay_out.
 
 pub returns-clause-first : goal.returns-clause-first
 returns-clause-first c =
-    first_or_memory c.args.whole.now (λ (structs : List StructDef). structs ≡ c.args.whole.now.structs) c.lay_out.result c.lay_out.ensures.laid_out c.lay_out.ensures.refused
+    first_or_memory c.args.whole.now (λ (structs : List StructDef). structs ≡ c.args.whole.now.structs)
+    c.lay_out.result c.lay_out.ensures.laid_out c.lay_out.ensures.refused
