@@ -15,7 +15,7 @@ use Rattle.ds_assigned.specs.Known.{Knows, IsEnd}
 use Rattle.ds_blocks.specs.declared.sites.Site.{Site}
 use Rattle.ds_blocks.specs.Sites.{IsSite}
 use Rattle.ds_graph.specs.Graph.{Edges}
-use Rattle.ds_paths.specs.Paths.{AllPass, IsReached}
+use Rattle.ds_graph.specs.Paths.{AllPass, IsReached}
 use Rattle.ds_scope.specs.declared.meaning.Meaning.{Meaning}
 use Rattle.ds_scope.specs.declared.meaning.Meaning.TheVariants.{Parameter, Label, Result}
 use Rattle.ds_scope.specs.Scope.{Means}

@@ -1,6 +1,10 @@
 pub mod Walks
-pub mod Marks
+pub mod Nodes
+pub mod Marking
+pub mod Searching
+pub mod Around
 pub mod Flags
 pub mod Searched
 pub mod Ranked
-pub mod Rows
+pub mod Climbs
+pub mod Dominance

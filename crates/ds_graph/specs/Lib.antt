@@ -3,3 +3,7 @@ pub mod Ordered
 pub mod Ranks
 pub mod Reach
 pub mod Search
+pub mod Paths
+pub mod Tree
+pub mod Certificate
+pub mod Known

@@ -5,7 +5,7 @@ ghost use Rattle.ds_graph.specs.Ranks.{IsMonotone, rank_of};
 
 use crate::graph::Graph;
 use crate::ranks::ranks_of;
-use crate::spread::reaches_itself;
+use crate::reach::reach;
 use std::alloc::{AllocError, Global};
 
 /// Whether each edge leads above a rank.
@@ -19,6 +19,16 @@ fn rises(ranks: &[u32], rank: u32, edges: &[u32]) -> bool
         }
     }
     true
+}
+
+/// Whether edges lead from the node to itself.
+fn reaches_itself(alloc: Global, graph: &Graph, node: usize) -> Result<bool, AllocError>
+    requires closed { IsClosed graph.now }
+    requires within { node < length graph.now }
+    ensures { IfOk result (λ found. IsTrue found ↔ IsOnCycle graph.now node) }
+{
+    let marks = reach(alloc, graph, graph.edges(node), None)?;
+    Ok(marks[node])
 }
 
 /// Whether the node is on a cycle. One whose edges all lead to higher ranks is not, which is told at once.
@@ -38,10 +48,9 @@ fn is_on_cycle(alloc: Global, graph: &Graph, ranks: &[u32], node: usize) -> Resu
 /// The least node that is on a cycle, of a graph that has one.
 ///
 /// The time is linear where the order is one in which a depth-first search finishes all nodes.
-pub fn first_on_cycle(alloc: Global, graph: &Graph, order: Vec<u32>) -> Result<u32, AllocError>
+pub fn first_on_cycle(alloc: Global, graph: &Graph, order: &[u32]) -> Result<u32, AllocError>
     requires closed { IsClosed graph.now }
     requires few { length graph.now < 2 ^ 32 }
-    requires inside { All (λ a. a < length graph.now) order.items }
     requires cyclic { (a : ℕ) × IsOnCycle graph.now a }
     ensures { IfOk result (λ found. IsFirstOnCycle graph.now found) }
 {

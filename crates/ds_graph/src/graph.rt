@@ -1,10 +1,11 @@
 //! Graphs.
-ghost use Rattle.std.specs.Prelude.{◌≡◌, ◌<◌, [], ◌∷◌, ◌++◌, length, get_or, set, replicate, IfOk, OnOk, OnErr};
+ghost use Rattle.std.specs.Prelude.{◌≡◌, ◌<◌, [], ◌∷◌, ◌++◌, length, get_or, OnOk, OnErr};
 
 use std::alloc::{AllocError, Global};
 use std::marker::Model;
 
-/// A graph on the numbers below its length. Contracts see, for each node from 0 on, the list of nodes to which its edges lead.
+/// A graph on the numbers below its length. Contracts see, for each node from 0 on, the list of nodes to which its
+/// edges lead.
 #[derive(Drop)]
 pub struct Graph {
     edges: Vec<Vec<u32>>,
@@ -28,23 +29,11 @@ impl Graph {
         }
     }
 
-    /// So many nodes with no edges.
-    pub(crate) fn with_nodes(alloc: Global, count: usize) -> Result<Graph, AllocError>
-        ensures { IfOk result (λ graph. graph ≡ replicate count []) }
-    {
-        let mut graph = Graph::new(alloc);
-        for node in 0..count {
-            graph.push(Vec::new(alloc))?;
+    /// One edge more, where its start is a node.
+    pub(crate) fn add_edge(&mut self, from: u32, to: u32) -> Result<(), AllocError> {
+        if let Some(row) = self.edges.get_mut(from as usize) {
+            row.push(to)?;
         }
-        Ok(graph)
-    }
-
-    /// One edge more.
-    pub(crate) fn add_edge(&mut self, from: usize, to: u32) -> Result<(), AllocError>
-        requires { from < length self.old }
-        ensures { OnOk result (self.new ≡ set self.old from (get_or self.old from [] ++ to ∷ [])) }
-    {
-        self.edges[from].push(to)?;
         Ok(())
     }
 

@@ -27,7 +27,7 @@ pub fn order(alloc: Global, graph: &Graph) -> Result<Ordered, AllocError>
 {
     let found = finish_order(alloc, graph)?;
     if found.has_cycle {
-        let node = first_on_cycle(alloc, graph, found.order)?;
+        let node = first_on_cycle(alloc, graph, found.order.as_slice())?;
         return Ok(Ordered::Cycle(node));
     }
     Ok(Ordered::Order(found.order))

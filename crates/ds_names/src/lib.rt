@@ -5,10 +5,8 @@ mod laws;
 mod names;
 mod places;
 
-pub use laws::{
-    distinct_before, distinct_behind, distinct_have_none_twice, places_are_exact, places_are_unique,
-};
-pub use names::{Names, each_once};
+pub use laws::{places_are_exact, places_are_unique};
+pub use names::Names;
 
 #[cfg(test)]
 mod tests;

@@ -1,6 +1,6 @@
 //! Names in a row.
-ghost use Rattle.std.specs.Prelude.{◌≡◌, IsTrue, IsFalse, [], ◌∷◌, ◌++◌, length, None, OnErr, IfOk, MatchResult};
-ghost use Rattle.ds_names.specs.Names.{Among, AreDistinct, IsFirstTwice, place_of};
+ghost use Rattle.std.specs.Prelude.{◌≡◌, IsTrue, IsFalse, [], ◌∷◌, ◌++◌, length, None, OnErr, IfOk};
+ghost use Rattle.ds_names.specs.Names.{Among, AreDistinct, place_of};
 
 use crate::places::Places;
 use ds_ast::Name;
@@ -28,7 +28,8 @@ impl<'a> Model for Names<'a> {
 
     ghost view = { λ s. nows s.names.items };
 
-    ghost invariant = { λ s. AreDistinct (nows s.names.items) × ((q : Name) → place_in s.places.texts s.places.numbers q ≡ place_of (nows s.names.items) q) };
+    ghost invariant = { λ s. AreDistinct (nows s.names.items) ×
+        ((q : Name) → place_in s.places.texts s.places.numbers q ≡ place_of (nows s.names.items) q) };
 }
 
 impl<'a> Names<'a> {
@@ -56,10 +57,11 @@ impl<'a> Names<'a> {
         self.places.get(name)
     }
 
-    /// Puts a name behind the others, if it does not stand among them yet, and says whether it was put. An `Err` comes only where there is not
-    /// enough memory; the names then stay.
+    /// Puts a name behind the others, if it does not stand among them yet, and says whether it was put. An `Err` comes
+    /// only where there is not enough memory; the names then stay.
     pub fn put(&mut self, name: &'a Name) -> Result<bool, AllocError>
-        ensures new { IfOk result (λ is_new. IsTrue is_new → (place_of self.old name.now ≡ None) × (self.new ≡ self.old ++ name.now ∷ [])) }
+        ensures new { IfOk result
+            (λ is_new. IsTrue is_new → (place_of self.old name.now ≡ None) × (self.new ≡ self.old ++ name.now ∷ [])) }
         ensures there { IfOk result (λ is_new. IsFalse is_new → Among name.now self.old × (self.new ≡ self.old)) }
         ensures err { OnErr result (self.new ≡ self.old) }
         ensures each_once { AreDistinct self.new }
@@ -77,20 +79,4 @@ impl<'a> Names<'a> {
             }
         }
     }
-}
-
-/// These names in a row, or the first that stands there a second time. The outer `Err` comes only where there is not enough memory.
-pub fn each_once<'a>(
-    alloc: Global,
-    names: &'a [Name],
-) -> Result<Result<Names<'a>, &'a Name>, AllocError>
-    ensures { IfOk result (λ answer. MatchResult answer (λ row. (row ≡ names.now) × AreDistinct names.now) (λ name. IsFirstTwice names.now name.now)) }
-{
-    let mut row = Names::new(alloc);
-    for name in names {
-        if !row.put(name)? {
-            return Ok(Err(name));
-        }
-    }
-    Ok(Ok(row))
 }

@@ -38,8 +38,11 @@ impl<'a> Places<'a> {
 
     /// Keeps the place of a name, instead of the one before. Without memory all stay.
     pub fn keep(&mut self, name: &'a Name, at: usize) -> Result<(), AllocError>
-        ensures ok { OnOk result ((q : Name) → place_in self.new.texts self.new.numbers q ≡ (if is_name name.now q then Some at else place_in self.old.texts self.old.numbers q)) }
-        ensures err { OnErr result ((q : Name) → place_in self.new.texts self.new.numbers q ≡ place_in self.old.texts self.old.numbers q) }
+        ensures ok { OnOk result
+            ((q : Name) → place_in self.new.texts self.new.numbers q ≡
+            (if is_name name.now q then Some at else place_in self.old.texts self.old.numbers q)) }
+        ensures err { OnErr result
+            ((q : Name) → place_in self.new.texts self.new.numbers q ≡ place_in self.old.texts self.old.numbers q) }
     {
         match name {
             Name::Number(number) => {

@@ -15,14 +15,17 @@ unfolding hidden-the_row-Ty-0 hidden
 struct_in_array n of = refl
 
 pub extent_of_array : (h : Name → CappedExtent) (n : ℕ) (of : Ty) →
-    capped_extent h (ty.Array n of) ≡ record { size = capped (n * (capped_extent h of).size); align = (capped_extent h of).align }
+    capped_extent h (ty.Array n of) ≡ record
+    { size = capped (n * (capped_extent h of).size); align = (capped_extent h of).align }
 unfolding hidden-the_row-Ty-0 hidden
 extent_of_array h n of = refl
 
-pub too_large_array : (structs : List StructDef) (n : ℕ) (of : Ty) → WritesTooLarge structs (ty.Array n of) ≡ (IsTooLarge structs (ty.Array n of) ⊎ WritesTooLarge structs of)
+pub too_large_array : (structs : List StructDef) (n : ℕ) (of : Ty) →
+    WritesTooLarge structs (ty.Array n of) ≡ (IsTooLarge structs (ty.Array n of) ⊎ WritesTooLarge structs of)
 unfolding hidden-the_row-Ty-0 hidden
 too_large_array structs n of = refl
 
-pub large_array : (h : Name → CappedExtent) (n : ℕ) (of : Ty) → writes_large h (ty.Array n of) ≡ (is_large (capped_extent h (ty.Array n of)) || writes_large h of)
+pub large_array : (h : Name → CappedExtent) (n : ℕ) (of : Ty) →
+    writes_large h (ty.Array n of) ≡ (is_large (capped_extent h (ty.Array n of)) || writes_large h of)
 unfolding hidden-the_row-Ty-0 hidden
 large_array h n of = refl

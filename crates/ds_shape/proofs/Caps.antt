@@ -40,7 +40,8 @@ times_more zero a h = absurd (omega (arith, h))
 times_more (suc n) a h = let e : suc n * a ≡ n * a + a = omega arith in omega (arith, e)
 
 capped_times : (n a : ℕ) → capped (n * capped a) ≡ capped (n * a)
-capped_times zero a = let e : 0 * capped a ≡ 0 = omega arith in let f : 0 * a ≡ 0 = omega arith in ap capped (e ∙ sym f)
+capped_times zero a =
+    let e : 0 * capped a ≡ 0 = omega arith in let f : 0 * a ≡ 0 = omega arith in ap capped (e ∙ sym f)
 capped_times (suc n) a = elim (below_or_not a (2 ^ 31 + 1)) [
   | inl small ↦ let same : capped a ≡ a = omega (arith, small) in rw same
   | inr large ↦
@@ -59,7 +60,8 @@ KeepsName g h name = (e : Extent) → g name ≡ Some e → (h name ≡ cap e) �
 abbrev KeepsNames : (Name → Option Extent) → (Name → CappedExtent) → List Name → Type 0
 KeepsNames g h names = (n : Name) → Among n names → KeepsName g h n
 
-kept_array : (count : ℕ) (o : Option Extent) (k : CappedExtent) → ((e : Extent) → o ≡ Some e → (k ≡ cap e) × (1 ≤ e.align)) → (e : Extent) → option_map (times count) o ≡ Some e →
+kept_array : (count : ℕ) (o : Option Extent) (k : CappedExtent) →
+    ((e : Extent) → o ≡ Some e → (k ≡ cap e) × (1 ≤ e.align)) → (e : Extent) → option_map (times count) o ≡ Some e →
     (record { size = capped (count * k.size); align = k.align } ≡ cap e) × (1 ≤ e.align)
 kept_array count None k keeps e is = absurd cc
 kept_array count (Some x) k keeps e is =
@@ -71,77 +73,119 @@ kept_array count (Some x) k keeps e is =
       kept.1,
     )
 
-kept_scalar : (s : _) (e : Extent) → Some (record { size = scalar_size s; align = scalar_size s }) ≡ Some e → (record { size = scalar_size s; align = scalar_size s } ≡ cap e) × (1 ≤ e.align)
-kept_scalar I1 e is = let same : record { size = 1; align = 1 } ≡ e = cc in subst (λ (y : Extent). (record { size = 1; align = 1 } ≡ cap y) × (1 ≤ y.align)) same (refl, omega arith)
-kept_scalar I8 e is = let same : record { size = 1; align = 1 } ≡ e = cc in subst (λ (y : Extent). (record { size = 1; align = 1 } ≡ cap y) × (1 ≤ y.align)) same (refl, omega arith)
-kept_scalar I16 e is = let same : record { size = 2; align = 2 } ≡ e = cc in subst (λ (y : Extent). (record { size = 2; align = 2 } ≡ cap y) × (1 ≤ y.align)) same (refl, omega arith)
-kept_scalar I32 e is = let same : record { size = 4; align = 4 } ≡ e = cc in subst (λ (y : Extent). (record { size = 4; align = 4 } ≡ cap y) × (1 ≤ y.align)) same (refl, omega arith)
-kept_scalar I64 e is = let same : record { size = 8; align = 8 } ≡ e = cc in subst (λ (y : Extent). (record { size = 8; align = 8 } ≡ cap y) × (1 ≤ y.align)) same (refl, omega arith)
-kept_scalar Ptr e is = let same : record { size = 8; align = 8 } ≡ e = cc in subst (λ (y : Extent). (record { size = 8; align = 8 } ≡ cap y) × (1 ≤ y.align)) same (refl, omega arith)
+kept_scalar : (s : _) (e : Extent) → Some (record { size = scalar_size s; align = scalar_size s }) ≡ Some e →
+    (record { size = scalar_size s; align = scalar_size s } ≡ cap e) × (1 ≤ e.align)
+kept_scalar I1 e is =
+    let same : record { size = 1; align = 1 } ≡ e = cc in
+    subst (λ (y : Extent). (record { size = 1; align = 1 } ≡ cap y) × (1 ≤ y.align)) same (refl, omega arith)
+kept_scalar I8 e is =
+    let same : record { size = 1; align = 1 } ≡ e = cc in
+    subst (λ (y : Extent). (record { size = 1; align = 1 } ≡ cap y) × (1 ≤ y.align)) same (refl, omega arith)
+kept_scalar I16 e is =
+    let same : record { size = 2; align = 2 } ≡ e = cc in
+    subst (λ (y : Extent). (record { size = 2; align = 2 } ≡ cap y) × (1 ≤ y.align)) same (refl, omega arith)
+kept_scalar I32 e is =
+    let same : record { size = 4; align = 4 } ≡ e = cc in
+    subst (λ (y : Extent). (record { size = 4; align = 4 } ≡ cap y) × (1 ≤ y.align)) same (refl, omega arith)
+kept_scalar I64 e is =
+    let same : record { size = 8; align = 8 } ≡ e = cc in
+    subst (λ (y : Extent). (record { size = 8; align = 8 } ≡ cap y) × (1 ≤ y.align)) same (refl, omega arith)
+kept_scalar Ptr e is =
+    let same : record { size = 8; align = 8 } ≡ e = cc in
+    subst (λ (y : Extent). (record { size = 8; align = 8 } ≡ cap y) × (1 ≤ y.align)) same (refl, omega arith)
 
-kept_type : (g : Name → Option Extent) (h : Name → CappedExtent) (t : Ty) → KeepsNames g h (struct_in t) → (e : Extent) → extent_by g t ≡ Some e →
+kept_type : (g : Name → Option Extent) (h : Name → CappedExtent) (t : Ty) → KeepsNames g h (struct_in t) →
+    (e : Extent) → extent_by g t ≡ Some e →
     (capped_extent h t ≡ cap e) × (1 ≤ e.align)
-kept_type g h Void keeps e is = let same : record { size = 0; align = 1 } ≡ e = cc in subst (λ (y : Extent). (empty ≡ cap y) × (1 ≤ y.align)) same (refl, omega arith)
+kept_type g h Void keeps e is =
+    let same : record { size = 0; align = 1 } ≡ e = cc in
+    subst (λ (y : Extent). (empty ≡ cap y) × (1 ≤ y.align)) same (refl, omega arith)
 kept_type g h (One s) keeps e is = kept_scalar s e is
-kept_type g h (Array' count _ (more_of-Ty of end_of-Ty)) keeps e is = kept_array count (extent_by g of) (capped_extent h of) (kept_type g h of keeps) e is
+kept_type g h (Array' count _ (more_of-Ty of end_of-Ty)) keeps e is =
+    kept_array count (extent_by g of) (capped_extent h of) (kept_type g h of keeps) e is
 kept_type g h (Struct name) keeps e is = keeps name (inl refl) e is
 
 -- FIELDS
 
-behind_kept : (at : ℕ) (k : CappedExtent) (x : Extent) → k ≡ cap x → 1 ≤ x.align → behind (capped at) k ≡ capped (rounded at x.align + x.size)
+behind_kept : (at : ℕ) (k : CappedExtent) (x : Extent) → k ≡ cap x → 1 ≤ x.align →
+    behind (capped at) k ≡ capped (rounded at x.align + x.size)
 behind_kept at k x kept some =
-    ap (behind (capped at)) kept ∙ ap (λ (n : ℕ). capped (n + capped x.size)) (capped_rounded at x.align some) ∙ capped_sum (rounded at x.align) x.size
+    ap (behind (capped at)) kept ∙ ap (λ (n : ℕ). capped (n + capped x.size)) (capped_rounded at x.align some)
+    ∙ capped_sum (rounded at x.align) x.size
 
 some_max : (a b : ℕ) → 1 ≤ a → 1 ≤ max a b
 some_max a b h = omega arith
 
-kept_fields : (g : Name → Option Extent) (h : Name → CappedExtent) (at align : ℕ) (ts : List Ty) → KeepsNames g h (flat_map struct_in ts) → 1 ≤ align → (e : Extent) →
-    fields_extent (extent_by g) at align ts ≡ Some e → (capped_fields (capped_extent h) (capped at) align ts ≡ cap e) × (1 ≤ e.align)
+kept_fields : (g : Name → Option Extent) (h : Name → CappedExtent) (at align : ℕ) (ts : List Ty) →
+    KeepsNames g h (flat_map struct_in ts) → 1 ≤ align → (e : Extent) →
+    fields_extent (extent_by g) at align ts ≡ Some e → (capped_fields (capped_extent h) (capped at) align ts ≡ cap e)
+    × (1 ≤ e.align)
 kept_fields g h at align [] keeps some e is =
     let same : record { size = rounded at align; align = align } ≡ e = cc in
-    subst (λ (y : Extent). (record { size = capped (rounded (capped at) align); align = align } ≡ cap y) × (1 ≤ y.align)) same
+    subst (λ (y : Extent). (record { size = capped (rounded (capped at) align); align = align } ≡ cap y)
+    × (1 ≤ y.align)) same
     (ap (λ (n : ℕ). record { size = n; align = align }) (capped_rounded at align some), some)
 kept_fields g h at align (t ∷ ts) keeps some e is = elim (found_or_not (extent_by g t)) [
   | inl lacks ↦
-      let none : None ≡ Some e = subst (λ (o : Option Extent). option_and_then (λ (y : Extent). fields_extent (extent_by g) (rounded at y.align + y.size) (max align y.align) ts) o ≡ Some e) lacks is in
+      let none : None ≡ Some e =
+      subst (λ (o : Option Extent). option_and_then
+      (λ (y : Extent). fields_extent (extent_by g) (rounded at y.align + y.size) (max align y.align) ts) o ≡ Some
+      e) lacks is in
       absurd cc
   | inr found ↦
       let x = found.0 in
       let rest : fields_extent (extent_by g) (rounded at x.align + x.size) (max align x.align) ts ≡ Some e =
-      subst (λ (o : Option Extent). option_and_then (λ (y : Extent). fields_extent (extent_by g) (rounded at y.align + y.size) (max align y.align) ts) o ≡ Some e) found.1 is in
+      subst (λ (o : Option Extent). option_and_then
+      (λ (y : Extent). fields_extent (extent_by g) (rounded at y.align + y.size) (max align y.align) ts) o ≡ Some
+      e) found.1 is in
       let kept = kept_type g h t (λ n a. keeps n (among_left n (struct_in t) (flat_map struct_in ts) a)) x found.1 in
-      let more = kept_fields g h (rounded at x.align + x.size) (max align x.align) ts (λ n a. keeps n (among_right n (struct_in t) (flat_map struct_in ts) a)) (some_max align x.align some) e rest in (
-        ap (λ (n : ℕ). capped_fields (capped_extent h) n (max align (capped_extent h t).align) ts) (behind_kept at (capped_extent h t) x kept.0 kept.1)
-            ∙ ap (λ (c : CappedExtent). capped_fields (capped_extent h) (capped (rounded at x.align + x.size)) (max align c.align) ts) kept.0 ∙ more.0,
+      let more = kept_fields g h (rounded at x.align + x.size) (max align x.align) ts
+      (λ n a. keeps n (among_right n (struct_in t) (flat_map struct_in ts) a)) (some_max align x.align some) e
+      rest in (
+        ap (λ (n : ℕ). capped_fields (capped_extent h) n (max align (capped_extent h t).align) ts)
+            (behind_kept at (capped_extent h t) x kept.0 kept.1)
+            ∙ ap (λ (c : CappedExtent). capped_fields (capped_extent h) (capped (rounded at x.align + x.size))
+            (max align c.align) ts) kept.0 ∙ more.0,
         more.1,
       )
 ]
 
-kept_offset : (g : Name → Option Extent) (h : Name → CappedExtent) (at n : ℕ) (ts : List Ty) → KeepsNames g h (flat_map struct_in ts) → (o : ℕ) →
-    field_offset (extent_by g) at n ts ≡ Some o → get_or (capped_offsets (capped_extent h) (capped at) ts) n 0 ≡ capped o
+kept_offset : (g : Name → Option Extent) (h : Name → CappedExtent) (at n : ℕ) (ts : List Ty) →
+    KeepsNames g h (flat_map struct_in ts) → (o : ℕ) →
+    field_offset (extent_by g) at n ts ≡ Some o →
+    get_or (capped_offsets (capped_extent h) (capped at) ts) n 0 ≡ capped o
 kept_offset g h at n [] keeps o is = absurd cc
 kept_offset g h at zero (t ∷ ts) keeps o is = elim (found_or_not (extent_by g t)) [
   | inl lacks ↦
-      let none : None ≡ Some o = subst (λ (y : Option Extent). option_and_then (λ (y : Extent). Some (rounded at y.align)) y ≡ Some o) lacks is in
+      let none : None ≡ Some o =
+      subst (λ (y : Option Extent). option_and_then (λ (y : Extent). Some (rounded at y.align)) y ≡ Some o) lacks
+      is in
       absurd cc
   | inr found ↦
       let x = found.0 in
-      let rest : Some (rounded at x.align) ≡ Some o = subst (λ (y : Option Extent). option_and_then (λ (y : Extent). Some (rounded at y.align)) y ≡ Some o) found.1 is in
+      let rest : Some (rounded at x.align) ≡ Some o =
+      subst (λ (y : Option Extent). option_and_then (λ (y : Extent). Some (rounded at y.align)) y ≡ Some o) found.1
+      is in
       let kept = kept_type g h t (λ n a. keeps n (among_left n (struct_in t) (flat_map struct_in ts) a)) x found.1 in
       let same : rounded at x.align ≡ o = cc in
       ap (start_at (capped at)) kept.0 ∙ capped_rounded at x.align kept.1 ∙ ap capped same
 ]
 kept_offset g h at (suc n) (t ∷ ts) keeps o is = elim (found_or_not (extent_by g t)) [
   | inl lacks ↦
-      let none : None ≡ Some o = subst (λ (y : Option Extent). option_and_then (λ (y : Extent). field_offset (extent_by g) (rounded at y.align + y.size) n ts) y ≡ Some o) lacks is in
+      let none : None ≡ Some o =
+      subst (λ (y : Option Extent). option_and_then
+      (λ (y : Extent). field_offset (extent_by g) (rounded at y.align + y.size) n ts) y ≡ Some o) lacks is in
       absurd cc
   | inr found ↦
       let x = found.0 in
       let rest : field_offset (extent_by g) (rounded at x.align + x.size) n ts ≡ Some o =
-      subst (λ (y : Option Extent). option_and_then (λ (y : Extent). field_offset (extent_by g) (rounded at y.align + y.size) n ts) y ≡ Some o) found.1 is in
+      subst (λ (y : Option Extent). option_and_then
+      (λ (y : Extent). field_offset (extent_by g) (rounded at y.align + y.size) n ts) y ≡ Some o) found.1 is in
       let kept = kept_type g h t (λ n a. keeps n (among_left n (struct_in t) (flat_map struct_in ts) a)) x found.1 in
-      ap (λ (m : ℕ). get_or (capped_offsets (capped_extent h) m ts) n 0) (behind_kept at (capped_extent h t) x kept.0 kept.1)
-      ∙ kept_offset g h (rounded at x.align + x.size) n ts (λ n a. keeps n (among_right n (struct_in t) (flat_map struct_in ts) a)) o rest
+      ap (λ (m : ℕ). get_or (capped_offsets (capped_extent h) m ts) n 0)
+      (behind_kept at (capped_extent h t) x kept.0 kept.1)
+      ∙ kept_offset g h (rounded at x.align + x.size) n ts
+      (λ n a. keeps n (among_right n (struct_in t) (flat_map struct_in ts) a)) o rest
 ]
 
 -- STRUCTS
@@ -154,93 +198,131 @@ module _ (structs : List StructDef) (extents : List CappedExtent) where
   right_at d name right e is = right e (d, is)
 
   -- what is counted from the fields of a struct, of whose structs all is right, is right for it
-  pub right_fields : (name : Name) (fields : List Ty) → fields_of structs name ≡ Some fields → ((n : Name) → Among n (flat_map struct_in fields) → IsRight structs extents n) → (e : Extent) →
+  pub right_fields : (name : Name) (fields : List Ty) → fields_of structs name ≡ Some fields →
+      ((n : Name) → Among n (flat_map struct_in fields) → IsRight structs extents n) → (e : Extent) →
       HasExtent structs (Struct name) e → (capped_fields (capped_extent kept_of) 0 1 fields ≡ cap e) × (1 ≤ e.align)
   right_fields name fields of right e (zero, is) = absurd cc
   right_fields name fields of right e (suc d, is) =
       let rest : fields_extent (extent_by (struct_extent structs d)) 0 1 fields ≡ Some e =
-      subst (λ (o : Option (List Ty)). option_and_then (fields_extent (extent_by (struct_extent structs d)) 0 1) o ≡ Some e) of is in
+      subst (λ (o : Option (List Ty)). option_and_then (fields_extent (extent_by (struct_extent structs d)) 0 1) o ≡
+      Some e) of is in
       kept_fields (struct_extent structs d) kept_of 0 1 fields (λ n a. right_at d n (right n a)) (omega arith) e rest
 
   -- where it is right for each struct, it is for each type
-  pub right_types : AreRight structs extents → (t : Ty) (e : Extent) → HasExtent structs t e → capped_extent kept_of t ≡ cap e
-  right_types right t e (d, is) = (kept_type (struct_extent structs d) kept_of t (λ n a. right_at d n (right n)) e is).0
+  pub right_types : AreRight structs extents → (t : Ty) (e : Extent) → HasExtent structs t e →
+      capped_extent kept_of t ≡ cap e
+  right_types right t e (d, is) =
+      (kept_type (struct_extent structs d) kept_of t (λ n a. right_at d n (right n)) e is).0
 
   -- and for each field
-  pub right_offset : AreRight structs extents → (name : Name) (fields : List Ty) (n o : ℕ) → fields_of structs name ≡ Some fields → HasOffset structs name n o →
+  pub right_offset : AreRight structs extents → (name : Name) (fields : List Ty) (n o : ℕ) →
+      fields_of structs name ≡ Some fields → HasOffset structs name n o →
       get_or (capped_offsets (capped_extent kept_of) 0 fields) n 0 ≡ capped o
   right_offset right name fields n o of (d, is) =
       let rest : field_offset (extent_by (struct_extent structs d)) 0 n fields ≡ Some o =
-      subst (λ (x : Option (List Ty)). option_and_then (field_offset (extent_by (struct_extent structs d)) 0 n) x ≡ Some o) of is in
+      subst (λ (x : Option (List Ty)). option_and_then (field_offset (extent_by (struct_extent structs d)) 0 n) x ≡
+      Some o) of is in
       kept_offset (struct_extent structs d) kept_of 0 n fields (λ n a. right_at d n (right n)) o rest
 
 -- A FIELD BEGINS WITHIN ITS STRUCT
 
-some_align : (structs : List StructDef) (extents : List CappedExtent) → AreRight structs extents → (d : ℕ) (t : Ty) (e : Extent) → extent_by (struct_extent structs d) t ≡ Some e → 1 ≤ e.align
-some_align structs extents right d t e is = (kept_type (struct_extent structs d) (extent_in (struct_names structs) extents) t (λ n a x y. right n x (d, y)) e is).1
+some_align : (structs : List StructDef) (extents : List CappedExtent) → AreRight structs extents →
+    (d : ℕ) (t : Ty) (e : Extent) → extent_by (struct_extent structs d) t ≡ Some e → 1 ≤ e.align
+some_align structs extents right d t e is =
+    (kept_type (struct_extent structs d) (extent_in (struct_names structs) extents) t (λ n a x y. right n x (d, y)) e
+    is).1
 
 -- what stands before fields is within their struct
-before_end : (f : Ty → Option Extent) → ((t : Ty) (e : Extent) → f t ≡ Some e → 1 ≤ e.align) → (at align : ℕ) (ts : List Ty) → 1 ≤ align → (e : Extent) → fields_extent f at align ts ≡ Some e → at ≤ e.size
+before_end : (f : Ty → Option Extent) → ((t : Ty) (e : Extent) → f t ≡ Some e → 1 ≤ e.align) →
+    (at align : ℕ) (ts : List Ty) → 1 ≤ align → (e : Extent) → fields_extent f at align ts ≡ Some e → at ≤ e.size
 before_end f some at align [] h e is =
     let same : record { size = rounded at align; align = align } ≡ e = cc in
     subst (λ (y : Extent). at ≤ y.size) same (rounded_least at align h)
 before_end f some at align (t ∷ ts) h e is = elim (found_or_not (f t)) [
   | inl lacks ↦
-      let none : None ≡ Some e = subst (λ (o : Option Extent). option_and_then (λ (y : Extent). fields_extent f (rounded at y.align + y.size) (max align y.align) ts) o ≡ Some e) lacks is in
+      let none : None ≡ Some e =
+      subst (λ (o : Option Extent). option_and_then
+      (λ (y : Extent). fields_extent f (rounded at y.align + y.size) (max align y.align) ts) o ≡ Some e) lacks is
+      in
       absurd cc
   | inr found ↦
       let x = found.0 in
       let rest : fields_extent f (rounded at x.align + x.size) (max align x.align) ts ≡ Some e =
-      subst (λ (o : Option Extent). option_and_then (λ (y : Extent). fields_extent f (rounded at y.align + y.size) (max align y.align) ts) o ≡ Some e) found.1 is in
-      let more : rounded at x.align + x.size ≤ e.size = before_end f some (rounded at x.align + x.size) (max align x.align) ts (some_max align x.align h) e rest in
+      subst (λ (o : Option Extent). option_and_then
+      (λ (y : Extent). fields_extent f (rounded at y.align + y.size) (max align y.align) ts) o ≡ Some e) found.1 is
+      in
+      let more : rounded at x.align + x.size ≤ e.size =
+      before_end f some (rounded at x.align + x.size) (max align x.align) ts (some_max align x.align h) e rest in
       let least : at ≤ rounded at x.align = rounded_least at x.align (some t x found.1) in
       omega (arith, more, least)
 ]
 
-offset_before_end : (f : Ty → Option Extent) → ((t : Ty) (e : Extent) → f t ≡ Some e → 1 ≤ e.align) → (at align n : ℕ) (ts : List Ty) → 1 ≤ align → (e : Extent) (o : ℕ) →
+offset_before_end : (f : Ty → Option Extent) → ((t : Ty) (e : Extent) → f t ≡ Some e → 1 ≤ e.align) →
+    (at align n : ℕ) (ts : List Ty) → 1 ≤ align → (e : Extent) (o : ℕ) →
     fields_extent f at align ts ≡ Some e → field_offset f at n ts ≡ Some o → o ≤ e.size
 offset_before_end f some at align n [] h e o is off = absurd cc
 offset_before_end f some at align zero (t ∷ ts) h e o is off = elim (found_or_not (f t)) [
   | inl lacks ↦
-      let none : None ≡ Some o = subst (λ (y : Option Extent). option_and_then (λ (y : Extent). Some (rounded at y.align)) y ≡ Some o) lacks off in
+      let none : None ≡ Some o =
+      subst (λ (y : Option Extent). option_and_then (λ (y : Extent). Some (rounded at y.align)) y ≡ Some o) lacks
+      off in
       absurd cc
   | inr found ↦
       let x = found.0 in
       let rest : fields_extent f (rounded at x.align + x.size) (max align x.align) ts ≡ Some e =
-      subst (λ (y : Option Extent). option_and_then (λ (y : Extent). fields_extent f (rounded at y.align + y.size) (max align y.align) ts) y ≡ Some e) found.1 is in
-      let begins : Some (rounded at x.align) ≡ Some o = subst (λ (y : Option Extent). option_and_then (λ (y : Extent). Some (rounded at y.align)) y ≡ Some o) found.1 off in
+      subst (λ (y : Option Extent). option_and_then
+      (λ (y : Extent). fields_extent f (rounded at y.align + y.size) (max align y.align) ts) y ≡ Some e) found.1 is
+      in
+      let begins : Some (rounded at x.align) ≡ Some o =
+      subst (λ (y : Option Extent). option_and_then (λ (y : Extent). Some (rounded at y.align)) y ≡ Some o) found.1
+      off in
       let same : rounded at x.align ≡ o = cc in
-      let more : rounded at x.align + x.size ≤ e.size = before_end f some (rounded at x.align + x.size) (max align x.align) ts (some_max align x.align h) e rest in
+      let more : rounded at x.align + x.size ≤ e.size =
+      before_end f some (rounded at x.align + x.size) (max align x.align) ts (some_max align x.align h) e rest in
       omega (arith, more, same)
 ]
 offset_before_end f some at align (suc n) (t ∷ ts) h e o is off = elim (found_or_not (f t)) [
   | inl lacks ↦
-      let none : None ≡ Some o = subst (λ (y : Option Extent). option_and_then (λ (y : Extent). field_offset f (rounded at y.align + y.size) n ts) y ≡ Some o) lacks off in
+      let none : None ≡ Some o =
+      subst (λ (y : Option Extent). option_and_then
+      (λ (y : Extent). field_offset f (rounded at y.align + y.size) n ts) y ≡ Some o) lacks off in
       absurd cc
   | inr found ↦
       let x = found.0 in
       let rest : fields_extent f (rounded at x.align + x.size) (max align x.align) ts ≡ Some e =
-      subst (λ (y : Option Extent). option_and_then (λ (y : Extent). fields_extent f (rounded at y.align + y.size) (max align y.align) ts) y ≡ Some e) found.1 is in
+      subst (λ (y : Option Extent). option_and_then
+      (λ (y : Extent). fields_extent f (rounded at y.align + y.size) (max align y.align) ts) y ≡ Some e) found.1 is
+      in
       let begins : field_offset f (rounded at x.align + x.size) n ts ≡ Some o =
-      subst (λ (y : Option Extent). option_and_then (λ (y : Extent). field_offset f (rounded at y.align + y.size) n ts) y ≡ Some o) found.1 off in
-      offset_before_end f some (rounded at x.align + x.size) (max align x.align) n ts (some_max align x.align h) e o rest begins
+      subst (λ (y : Option Extent). option_and_then (λ (y : Extent). field_offset f (rounded at y.align + y.size) n ts)
+      y ≡ Some o) found.1 off in
+      offset_before_end f some (rounded at x.align + x.size) (max align x.align) n ts (some_max align x.align h) e o
+      rest begins
 ]
 
-offset_within_at : (structs : List StructDef) (extents : List CappedExtent) → AreRight structs extents → (name : Name) (fields : List Ty) (n o : ℕ) (e : Extent) → fields_of structs name ≡ Some fields →
-    (d : ℕ) → struct_extent structs (suc d) name ≡ Some e → option_and_then (field_offset (extent_by (struct_extent structs d)) 0 n) (fields_of structs name) ≡ Some o → o ≤ e.size
+offset_within_at : (structs : List StructDef) (extents : List CappedExtent) → AreRight structs extents →
+    (name : Name) (fields : List Ty) (n o : ℕ) (e : Extent) → fields_of structs name ≡ Some fields →
+    (d : ℕ) → struct_extent structs (suc d) name ≡ Some e →
+    option_and_then (field_offset (extent_by (struct_extent structs d)) 0 n) (fields_of structs name) ≡ Some o →
+    o ≤ e.size
 offset_within_at structs extents right name fields n o e of d is off =
     let rest : fields_extent (extent_by (struct_extent structs d)) 0 1 fields ≡ Some e =
-    subst (λ (x : Option (List Ty)). option_and_then (fields_extent (extent_by (struct_extent structs d)) 0 1) x ≡ Some e) of is in
+    subst (λ (x : Option (List Ty)). option_and_then (fields_extent (extent_by (struct_extent structs d)) 0 1) x ≡ Some
+    e) of is in
     let begins : field_offset (extent_by (struct_extent structs d)) 0 n fields ≡ Some o =
-    subst (λ (x : Option (List Ty)). option_and_then (field_offset (extent_by (struct_extent structs d)) 0 n) x ≡ Some o) of off in
-    offset_before_end (extent_by (struct_extent structs d)) (some_align structs extents right d) 0 1 n fields (omega arith) e o rest begins
+    subst (λ (x : Option (List Ty)). option_and_then (field_offset (extent_by (struct_extent structs d)) 0 n) x ≡ Some
+    o) of off in
+    offset_before_end (extent_by (struct_extent structs d)) (some_align structs extents right d) 0 1 n fields
+    (omega arith) e o rest begins
 
 -- a field of a struct begins within it
-pub offset_within : (structs : List StructDef) (extents : List CappedExtent) → AreRight structs extents → (name : Name) (fields : List Ty) (n o : ℕ) (e : Extent) → fields_of structs name ≡ Some fields →
+pub offset_within : (structs : List StructDef) (extents : List CappedExtent) → AreRight structs extents →
+    (name : Name) (fields : List Ty) (n o : ℕ) (e : Extent) → fields_of structs name ≡ Some fields →
     HasExtent structs (Struct name) e → HasOffset structs name n o → o ≤ e.size
 offset_within structs extents right name fields n o e of (d, is) (c, off) =
     let deep : suc (d + c) ≡ suc c + d = omega arith in
     let same : d + c ≡ d + c = refl in
     let found : struct_extent structs (suc c + d) name ≡ Some e = deeper structs (suc c) d name e is in
     let begins = deeper_offset structs name n d c o off in
-    offset_within_at structs extents right name fields n o e of (d + c) (ap (λ (k : ℕ). struct_extent structs k name) deep ∙ found) begins
+    offset_within_at structs extents right name fields n o e of (d + c)
+    (ap (λ (k : ℕ). struct_extent structs k name) deep ∙ found) begins

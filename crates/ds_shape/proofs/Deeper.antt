@@ -12,11 +12,13 @@ use Rattle.ds_shape.specs.Laws.{ExtentsAreUnique, OffsetsAreUnique}
 abbrev pub Keeps : {A B : Type 0} → (A → Option B) → (A → Option B) → Type 0
 Keeps {A} {B} g h = (x : A) (y : B) → g x ≡ Some y → h x ≡ Some y
 
-keep_map : {A B : Type 0} (f : A → B) (o p : Option A) (y : B) → ((x : A) → o ≡ Some x → p ≡ Some x) → option_map f o ≡ Some y → option_map f p ≡ Some y
+keep_map : {A B : Type 0} (f : A → B) (o p : Option A) (y : B) → ((x : A) → o ≡ Some x → p ≡ Some x) →
+    option_map f o ≡ Some y → option_map f p ≡ Some y
 keep_map f None p y keeps is = cc
 keep_map f (Some x) p y keeps is = rw (keeps x refl) is
 
-keep_then : {A B : Type 0} (f g : A → Option B) (o p : Option A) (y : B) → ((x : A) → o ≡ Some x → p ≡ Some x) → Keeps f g →
+keep_then : {A B : Type 0} (f g : A → Option B) (o p : Option A) (y : B) → ((x : A) → o ≡ Some x → p ≡ Some x) →
+    Keeps f g →
     option_and_then f o ≡ Some y → option_and_then g p ≡ Some y
 keep_then f g None p y keeps on is = cc
 keep_then f g (Some x) p y keeps on is = rw (keeps x refl) (on x y is)
@@ -24,19 +26,23 @@ keep_then f g (Some x) p y keeps on is = rw (keeps x refl) (on x y is)
 keep_extent : (g h : Name → Option Extent) → Keeps g h → Keeps (extent_by g) (extent_by h)
 keep_extent g h k Void e is = is
 keep_extent g h k (One s) e is = is
-keep_extent g h k (Array' count _ (more_of-Ty of end_of-Ty)) e is = keep_map (times count) (extent_by g of) (extent_by h of) e (keep_extent g h k of) is
+keep_extent g h k (Array' count _ (more_of-Ty of end_of-Ty)) e is =
+    keep_map (times count) (extent_by g of) (extent_by h of) e (keep_extent g h k of) is
 keep_extent g h k (Struct name) e is = k name e is
 
-keep_fields : (g h : Ty → Option Extent) → Keeps g h → (at align : ℕ) → Keeps (fields_extent g at align) (fields_extent h at align)
+keep_fields : (g h : Ty → Option Extent) → Keeps g h → (at align : ℕ) →
+    Keeps (fields_extent g at align) (fields_extent h at align)
 keep_fields g h k at align [] e is = is
 keep_fields g h k at align (t ∷ ts) e is = keep_then
     (λ x. fields_extent g (rounded at x.align + x.size) (max align x.align) ts)
     (λ x. fields_extent h (rounded at x.align + x.size) (max align x.align) ts)
     (g t) (h t) e (k t) (λ x. keep_fields g h k (rounded at x.align + x.size) (max align x.align) ts) is
 
-keep_offset : (g h : Ty → Option Extent) → Keeps g h → (at n : ℕ) → Keeps (field_offset g at n) (field_offset h at n)
+pub keep_offset : (g h : Ty → Option Extent) → Keeps g h → (at n : ℕ) →
+    Keeps (field_offset g at n) (field_offset h at n)
 keep_offset g h k at n [] a is = is
-keep_offset g h k at zero (t ∷ ts) a is = keep_then (λ x. Some (rounded at x.align)) (λ x. Some (rounded at x.align)) (g t) (h t) a (k t) (λ x y e. e) is
+keep_offset g h k at zero (t ∷ ts) a is =
+    keep_then (λ x. Some (rounded at x.align)) (λ x. Some (rounded at x.align)) (g t) (h t) a (k t) (λ x y e. e) is
 keep_offset g h k at (suc n) (t ∷ ts) a is = keep_then
     (λ x. field_offset g (rounded at x.align + x.size) n ts)
     (λ x. field_offset h (rounded at x.align + x.size) n ts)
@@ -56,9 +62,11 @@ keep_struct structs (suc d) name e is = keep_then
 pub deeper : (structs : List StructDef) (k d : ℕ) → Keeps (struct_extent structs d) (struct_extent structs (k + d))
 deeper structs zero d name e is = let h : 0 + d ≡ d = omega arith in rw h is
 deeper structs (suc k) d name e is =
-    let h : suc k + d ≡ suc (k + d) = omega arith in rw h (keep_struct structs (k + d) name e (deeper structs k d name e is))
+    let h : suc k + d ≡ suc (k + d) = omega arith in
+    rw h (keep_struct structs (k + d) name e (deeper structs k d name e is))
 
-pub deeper_extent : (structs : List StructDef) (k d : ℕ) → Keeps (extent_by (struct_extent structs d)) (extent_by (struct_extent structs (k + d)))
+pub deeper_extent : (structs : List StructDef) (k d : ℕ) →
+    Keeps (extent_by (struct_extent structs d)) (extent_by (struct_extent structs (k + d)))
 deeper_extent structs k d = keep_extent (struct_extent structs d) (struct_extent structs (k + d)) (deeper structs k d)
 
 pub unique_extents : ExtentsAreUnique
@@ -70,14 +78,17 @@ unique_extents structs t e f (d, p) (c, q) =
 
 -- the offset of a field of these, at a depth
 abbrev pub offset_at : List StructDef → Name → ℕ → ℕ → Option ℕ
-offset_at structs name n d = option_and_then (field_offset (extent_by (struct_extent structs d)) 0 n) (fields_of structs name)
+offset_at structs name n d =
+    option_and_then (field_offset (extent_by (struct_extent structs d)) 0 n) (fields_of structs name)
 
-pub deeper_offset : (structs : List StructDef) (name : Name) (n k d a : ℕ) → offset_at structs name n d ≡ Some a → offset_at structs name n (k + d) ≡ Some a
+pub deeper_offset : (structs : List StructDef) (name : Name) (n k d a : ℕ) → offset_at structs name n d ≡ Some a →
+    offset_at structs name n (k + d) ≡ Some a
 deeper_offset structs name n k d a is = keep_then
     (field_offset (extent_by (struct_extent structs d)) 0 n)
     (field_offset (extent_by (struct_extent structs (k + d))) 0 n)
     (fields_of structs name) (fields_of structs name) a (λ fields same. same)
-    (keep_offset (extent_by (struct_extent structs d)) (extent_by (struct_extent structs (k + d))) (deeper_extent structs k d) 0 n) is
+    (keep_offset (extent_by (struct_extent structs d)) (extent_by (struct_extent structs (k + d)))
+    (deeper_extent structs k d) 0 n) is
 
 pub unique_offsets : OffsetsAreUnique
 unique_offsets structs name n a b (d, p) (c, q) =

@@ -2,7 +2,11 @@ pub mod Deeper
 pub mod Standing
 mod Tried
 pub mod TriedModule
+mod TriedWords
 pub mod Exist
+pub mod Computed
+pub mod Words
+pub mod Walked
 pub mod Caps
 pub mod Arrays
 pub mod Lists

@@ -20,7 +20,8 @@ contains_in (x ∷ xs) a (suc k, inside, is) = inr (contains_in xs a (k, omega (
 pub in_contains : (xs : List ℕ) (a : ℕ) → In a xs → Contains xs a
 in_contains [] a i = absurd i
 in_contains (x ∷ xs) a (inl e) = (zero, omega arith, e)
-in_contains (x ∷ xs) a (inr i) = let c = in_contains xs a i in let h : c.0 < length xs = c.1 in (suc c.0, omega (arith, h), c.2)
+in_contains (x ∷ xs) a (inr i) =
+    let c = in_contains xs a i in let h : c.0 < length xs = c.1 in (suc c.0, omega (arith, h), c.2)
 
 pub in_behind : (xs : List ℕ) (x a : ℕ) → In a (xs ++ x ∷ []) → In a xs ⊎ (x ≡ a)
 in_behind [] x a (inl e) = inr e
@@ -32,7 +33,8 @@ pub same_or_not : (a b : ℕ) → (a ≡ b) ⊎ ((a ≡ b) → ⊥)
 same_or_not zero zero = inl refl
 same_or_not zero (suc b) = inr (λ e. absurd (omega (arith, e)))
 same_or_not (suc a) zero = inr (λ e. absurd (omega (arith, e)))
-same_or_not (suc a) (suc b) = elim (same_or_not a b) [ inl e ↦ inl (ap suc e) | inr n ↦ inr (λ e. n (omega (arith, e))) ]
+same_or_not (suc a) (suc b) =
+    elim (same_or_not a b) [ inl e ↦ inl (ap suc e) | inr n ↦ inr (λ e. n (omega (arith, e))) ]
 
 pub below_or_above : (a b : ℕ) → (a < b) ⊎ (b ≤ a)
 below_or_above a b = grind arith
@@ -43,14 +45,17 @@ Without n xs = (ys : List ℕ) × (length xs ≡ suc (length ys)) × ((x : ℕ) 
 without : (n : ℕ) (xs : List ℕ) → In n xs → Without n xs
 without n [] a = absurd a
 without n (y ∷ ys) (inl e) = (ys, refl, λ x other a. elim a [ inl f ↦ absurd (other (sym e ∙ f)) | inr b ↦ b ])
-without n (y ∷ ys) (inr b) = let w = without n ys b in (y ∷ w.0, ap suc w.1, λ x other a. elim a [ inl f ↦ inl f | inr c ↦ inr (w.2 x other c) ])
+without n (y ∷ ys) (inr b) =
+    let w = without n ys b in
+    (y ∷ w.0, ap suc w.1, λ x other a. elim a [ inl f ↦ inl f | inr c ↦ inr (w.2 x other c) ])
 
 -- a list of all numbers below n has no fewer than n
 full : (n : ℕ) (xs : List ℕ) → ((a : ℕ) → a < n → In a xs) → n ≤ length xs
 full zero xs all = omega arith
 full (suc n) xs all =
     let w = without n xs (all n (omega arith)) in
-    let h : n ≤ length w.0 = full n w.0 (λ a lt. w.2 a (λ e. absurd (omega (arith, e, lt))) (all a (omega (arith, lt)))) in
+    let h : n ≤ length w.0 =
+    full n w.0 (λ a lt. w.2 a (λ e. absurd (omega (arith, e, lt))) (all a (omega (arith, lt)))) in
     let k : length xs ≡ suc (length w.0) = w.1 in
     omega (arith, h, k)
 
@@ -67,7 +72,8 @@ none_outside n xs k many all there = elim (below_or_above k n) [
 
 -- SPLITS
 
-pub split_at : {X : Type 0} (xs : List X) (i : ℕ) (d : X) → i < length xs → xs ≡ take i xs ++ get_or xs i d ∷ drop (suc i) xs
+pub split_at : {X : Type 0} (xs : List X) (i : ℕ) (d : X) → i < length xs →
+    xs ≡ take i xs ++ get_or xs i d ∷ drop (suc i) xs
 split_at [] i d inside = absurd (omega (arith, inside))
 split_at (x ∷ xs) zero d inside = refl
 split_at (x ∷ xs) (suc i) d inside = ap (λ (ys : List _). x ∷ ys) (split_at xs i d (omega (arith, inside)))
@@ -82,7 +88,8 @@ edge_below [] a b (k, inside, is) = absurd (omega (arith, inside))
 edge_below (e ∷ es) zero b h = omega arith
 edge_below (e ∷ es) (suc a) b h = let r : a < length es = edge_below es a b h in omega (arith, r)
 
-leads_on : (edges : Edges) (a : ℕ) (bs : List ℕ) (x y : ℕ) → Leads edges a bs x → HasEdge edges x y → Leads edges a (bs ++ x ∷ []) y
+leads_on : (edges : Edges) (a : ℕ) (bs : List ℕ) (x y : ℕ) → Leads edges a bs x → HasEdge edges x y →
+    Leads edges a (bs ++ x ∷ []) y
 leads_on edges a [] x y leads edge = (leads, edge)
 leads_on edges a (b ∷ bs) x y leads edge = (leads.0, leads_on edges b bs x y leads.1 edge)
 
@@ -104,11 +111,15 @@ module _ (edges : Edges) (order : List ℕ) (is : IsOrder edges order) where
 
   edge_back : (n a b : ℕ) → n < length order → get_or order n 0 ≡ a → HasEdge edges a b → In b (take n order)
   edge_back n a b inside at edge =
-      contains_in (take n order) b (is.behind (take n order) (drop (suc n) order) a b (split_at order n 0 inside ∙ ap (λ (x : ℕ). take n order ++ x ∷ drop (suc n) order) at) edge)
+      contains_in (take n order) b
+      (is.behind (take n order) (drop (suc n) order) a b
+      (split_at order n 0 inside ∙ ap (λ (x : ℕ). take n order ++ x ∷ drop (suc n) order) at) edge)
 
-  on_cycle : (n a : ℕ) → n < length order → get_or order n 0 ≡ a → ((b : ℕ) → In b (take n order) → IsOnCycle edges b → ⊥) → IsOnCycle edges a → ⊥
+  on_cycle : (n a : ℕ) → n < length order → get_or order n 0 ≡ a →
+      ((b : ℕ) → In b (take n order) → IsOnCycle edges b → ⊥) → IsOnCycle edges a → ⊥
   on_cycle n a inside at none ([], edge) = none a (edge_back n a a inside at edge) ([], edge)
-  on_cycle n a inside at none (b ∷ bs, leads) = none b (edge_back n a b inside at leads.0) (bs ++ a ∷ [], leads_on edges b bs a b leads.1 leads.0)
+  on_cycle n a inside at none (b ∷ bs, leads) =
+      none b (edge_back n a b inside at leads.0) (bs ++ a ∷ [], leads_on edges b bs a b leads.1 leads.0)
 
   none_within : (n : ℕ) → n ≤ length order → (a : ℕ) → In a (take n order) → IsOnCycle edges a → ⊥
   none_within zero h a there cycle = there
@@ -122,4 +133,6 @@ module _ (edges : Edges) (order : List ℕ) (is : IsOrder edges order) where
   -- no node is on a cycle
   pub no_cycle : (a : ℕ) → IsOnCycle edges a → ⊥
   no_cycle a cycle =
-      none_within (length order) (omega arith) a (subst (In a) (sym (take_all (length order) order (omega arith))) (contains_in order a (is.each a (starts_below edges a cycle)))) cycle
+      none_within (length order) (omega arith) a
+      (subst (In a) (sym (take_all (length order) order (omega arith)))
+      (contains_in order a (is.each a (starts_below edges a cycle)))) cycle

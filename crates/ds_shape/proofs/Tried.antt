@@ -20,17 +20,18 @@ use Rattle.std.proofs.lemmas.Option.{option_and_then_some}
 
 -- SIZES
 
-abbrev line : ℕ → List Ty → StructDef
+abbrev pub line : ℕ → List Ty → StructDef
 line n fields = record { name = Number n; fields = fields }
 
-abbrev named : ℕ → Ty
+abbrev pub named : ℕ → Ty
 named n = ty.Struct (Number n)
 
-abbrev extent : ℕ → ℕ → Extent
+abbrev pub extent : ℕ → ℕ → Extent
 extent size align = record { size = size; align = align }
 
--- %0 = { i8, i32 }, %1 = { i32, i8 }, %2 = { }, %3 = { i8, i16 }, %4 = { %1, ptr, [2 x %3] }, %5 = { i8, %4, i1 }, %6 = { i8, %2, void, [0 x i64], i1 }
-abbrev table : List StructDef
+-- %0 = { i8, i32 }, %1 = { i32, i8 }, %2 = { }, %3 = { i8, i16 }, %4 = { %1, ptr, [2 x %3] }, %5 = { i8, %4, i1 }, %6
+-- = { i8, %2, void, [0 x i64], i1 }
+abbrev pub table : List StructDef
 table =
     line 0 (ty.One I8 ∷ ty.One I32 ∷ [])
     ∷ line 1 (ty.One I32 ∷ ty.One I8 ∷ [])
@@ -69,7 +70,9 @@ no_elements : HasExtent table (named 6) (extent 16 8)
 unfolding hidden-the_row-Ty-0 hidden
 no_elements = (2, refl)
 
-scalars : HasExtent table (ty.One I1) (extent 1 1) × HasExtent table (ty.One I16) (extent 2 2) × HasExtent table (ty.One I64) (extent 8 8) × HasExtent table (ty.One Ptr) (extent 8 8) × HasExtent table ty.Void (extent 0 1)
+scalars : HasExtent table (ty.One I1) (extent 1 1) × HasExtent table (ty.One I16) (extent 2 2)
+    × HasExtent table (ty.One I64) (extent 8 8) × HasExtent table (ty.One Ptr) (extent 8 8)
+    × HasExtent table ty.Void (extent 0 1)
 scalars = ((0, refl), (0, refl), (0, refl), (0, refl), (0, refl))
 
 -- offsets
@@ -87,7 +90,8 @@ of_nested_twice : HasOffset table (Number 5) 1 8 × HasOffset table (Number 5) 2
 unfolding hidden-the_row-Ty-0 hidden
 of_nested_twice = ((2, refl), (2, refl))
 
-behind_no_elements : HasOffset table (Number 6) 1 1 × HasOffset table (Number 6) 2 1 × HasOffset table (Number 6) 3 8 × HasOffset table (Number 6) 4 8
+behind_no_elements : HasOffset table (Number 6) 1 1 × HasOffset table (Number 6) 2 1 × HasOffset table (Number 6) 3 8
+    × HasOffset table (Number 6) 4 8
 unfolding hidden-the_row-Ty-0 hidden
 behind_no_elements = ((1, refl), (1, refl), (1, refl), (1, refl))
 
@@ -151,17 +155,21 @@ second_holds held (fields, same, among) =
     elim (subst (λ (xs : List Ty). Among held (flat_map struct_in xs)) (sym f) among) [ inl e ↦ e | inr e ↦ absurd e ]
 
 two_only : (names : List Name) (held : Name) →
-    (HoldsThrough cycle (Number 0) names held → Number 2 ≡ held → ⊥) × (HoldsThrough cycle (Number 1) names held → Number 2 ≡ held → ⊥)
+    (HoldsThrough cycle (Number 0) names held → Number 2 ≡ held → ⊥)
+    × (HoldsThrough cycle (Number 1) names held → Number 2 ≡ held → ⊥)
 two_only [] held = (λ h e. let f = first_holds held h in cc, λ h e. let f = second_holds held h in cc)
 two_only (n ∷ names) held = (
-  λ h e. let f = first_holds n h.0 in (two_only names held).1 (subst (λ (x : Name). HoldsThrough cycle x names held) (sym f) h.1) e,
-  λ h e. let f = second_holds n h.0 in (two_only names held).0 (subst (λ (x : Name). HoldsThrough cycle x names held) (sym f) h.1) e,
+  λ h e. let f = first_holds n h.0 in (two_only names held).1
+      (subst (λ (x : Name). HoldsThrough cycle x names held) (sym f) h.1) e,
+  λ h e. let f = second_holds n h.0 in (two_only names held).0
+      (subst (λ (x : Name). HoldsThrough cycle x names held) (sym f) h.1) e,
 )
 
 third_is_not : IsRecursive cycle (Number 2) → ⊥
 third_is_not ([], h) = let f = third_holds (Number 2) h in cc
 third_is_not (n ∷ names, h) =
-    let f = third_holds n h.0 in (two_only names (Number 2)).0 (subst (λ (x : Name). HoldsThrough cycle x names (Number 2)) (sym f) h.1) refl
+    let f = third_holds n h.0 in (two_only names (Number 2)).0
+    (subst (λ (x : Name). HoldsThrough cycle x names (Number 2)) (sym f) h.1) refl
 
 -- a pointer to a struct holds none
 through_a_pointer : (name : Name) → Holds (line 0 (ty.One Ptr ∷ []) ∷ []) (Number 0) name → ⊥
@@ -177,14 +185,16 @@ circle = line 0 (named 0 ∷ []) ∷ []
 no_extent : (depth : ℕ) (e : Extent) → struct_extent circle depth (Number 0) ≡ Some e → ⊥
 no_extent zero e is = cc
 no_extent (suc depth) e is = option_and_then_some
-    (λ (x : Extent). fields_extent (extent_by (struct_extent circle depth)) (rounded 0 x.align + x.size) (max 1 x.align) [])
+    (λ (x : Extent). fields_extent (extent_by (struct_extent circle depth)) (rounded 0 x.align + x.size)
+    (max 1 x.align) [])
     (struct_extent circle depth (Number 0)) e is (λ x has rest. no_extent depth x has)
 
 -- sizes
 two_is_the_most : IsTooLarge [] (ty.Array 2147483648 (ty.One I8)) → ⊥
 unfolding hidden-the_row-Ty-0 hidden
 two_is_the_most (e, has, large) =
-    let same : e ≡ extent 2147483648 1 = unique_extents [] (ty.Array 2147483648 (ty.One I8)) e (extent 2147483648 1) has (0, refl) in
+    let same : e ≡ extent 2147483648 1 =
+    unique_extents [] (ty.Array 2147483648 (ty.One I8)) e (extent 2147483648 1) has (0, refl) in
     let h : 2 ^ 31 < 2147483648 = subst (λ (x : Extent). 2 ^ 31 < x.size) same large in omega (arith, h)
 
 four_is_too_large : IsTooLarge [] (ty.Array 2147483648 (ty.One I16))
@@ -196,7 +206,8 @@ none_of_too_large : WritesTooLarge [] (ty.Array 0 (ty.Array 2147483648 (ty.One I
 unfolding hidden-the_row-Ty-0 hidden
 none_of_too_large = inr (inl four_is_too_large)
 
--- %0 = { [2147483648 x i8], i8 } has more bytes; its own line writes nothing too large, a global of it does, and so does an array of none of it
+-- %0 = { [2147483648 x i8], i8 } has more bytes; its own line writes nothing too large, a global of it does, and so
+-- does an array of none of it
 abbrev big : List StructDef
 big = line 0 (ty.Array 2147483648 (ty.One I8) ∷ ty.One I8 ∷ []) ∷ []
 
@@ -211,7 +222,8 @@ big_in_an_array = inr big_where_used
 not_in_its_line : AnyTooLarge big (ty.Array 2147483648 (ty.One I8) ∷ ty.One I8 ∷ []) → ⊥
 unfolding hidden-the_row-Ty-0 hidden
 not_in_its_line (inl (inl (e, has, large))) =
-    let same : e ≡ extent 2147483648 1 = unique_extents big (ty.Array 2147483648 (ty.One I8)) e (extent 2147483648 1) has (0, refl) in
+    let same : e ≡ extent 2147483648 1 =
+    unique_extents big (ty.Array 2147483648 (ty.One I8)) e (extent 2147483648 1) has (0, refl) in
     let h : 2 ^ 31 < 2147483648 = subst (λ (x : Extent). 2 ^ 31 < x.size) same large in omega (arith, h)
 not_in_its_line (inl (inr inside)) = inside
 not_in_its_line (inr (inl inside)) = inside

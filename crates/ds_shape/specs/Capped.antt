@@ -1,4 +1,5 @@
--- Sizes up to a bound. A struct in a chain of structs may have a size that no number of the machine holds, so that all sizes above 2 ^ 31 are kept as one.
+-- Sizes up to a bound. A struct in a chain of structs may have a size that no number of the machine holds, so that all
+-- sizes above 2 ^ 31 are kept as one.
 use Rattle.std.specs.Prelude.{◌≡◌, ◌^◌, ◌+◌, ◌*◌, ◌≤◌, ℕ, Bool, false, ◌||◌, nat_lt, min, max, List, [], ◌∷◌, map, get_or, Option, Some, None}
 use Rattle.ds_ast.specs.declared.name.Name.{Name}
 use Rattle.ds_ast.specs.declared.ty.Ty.{Ty, Void, One, Struct, Array', more_of-Ty, end_of-Ty}
@@ -26,12 +27,15 @@ pub record IsShort (e : CappedExtent) : Type 0 where
   pub some_align : 1 ≤ e.align
   pub align : e.align ≤ 8
 
+-- what is kept of the extent of an array of so many
+abbrev pub capped_times : ℕ → CappedExtent → CappedExtent
+capped_times count e = record { size = capped (count * e.size); align = e.align }
+
 -- what is kept of a type's extent, by what is kept of the structs'
 abbrev pub capped_extent : (Name → CappedExtent) → Ty → CappedExtent
 capped_extent of_struct Void = empty
 capped_extent of_struct (One s) = record { size = scalar_size s; align = scalar_size s }
-capped_extent of_struct (Array' count _ (more_of-Ty of end_of-Ty)) =
-    record { size = capped (count * (capped_extent of_struct of).size); align = (capped_extent of_struct of).align }
+capped_extent of_struct (Array' count _ (more_of-Ty of end_of-Ty)) = capped_times count (capped_extent of_struct of)
 capped_extent of_struct (Struct name) = of_struct name
 
 -- where a field begins, and what stands behind it
@@ -67,7 +71,9 @@ offset_at rows (Some place) field = get_or (get_or rows place []) field 0
 
 -- the extent of the struct type, if it has one, is kept
 abbrev pub IsRight : List StructDef → List CappedExtent → Name → Type 0
-IsRight structs extents name = (e : Extent) → HasExtent structs (Struct name) e → (extent_in (struct_names structs) extents name ≡ cap e) × (1 ≤ e.align)
+IsRight structs extents name =
+    (e : Extent) → HasExtent structs (Struct name) e →
+    (extent_in (struct_names structs) extents name ≡ cap e) × (1 ≤ e.align)
 
 -- the extents are those of all struct types
 abbrev pub AreRight : List StructDef → List CappedExtent → Type 0
@@ -75,7 +81,8 @@ AreRight structs extents = (name : Name) → IsRight structs extents name
 
 -- the offsets of all fields
 abbrev pub offsets_by : List Name → List CappedExtent → List StructDef → List (List ℕ)
-offsets_by names extents structs = map (λ (s : StructDef). capped_offsets (capped_extent (extent_in names extents)) 0 s.fields) structs
+offsets_by names extents structs =
+    map (λ (s : StructDef). capped_offsets (capped_extent (extent_in names extents)) 0 s.fields) structs
 
 -- the size is more than 2 ^ 31 bytes
 abbrev pub is_large : CappedExtent → Bool
@@ -86,7 +93,7 @@ abbrev pub writes_large : (Name → CappedExtent) → Ty → Bool
 writes_large of_struct Void = false
 writes_large of_struct (One s) = false
 writes_large of_struct (Array' count _ (more_of-Ty of end_of-Ty)) =
-    is_large (record { size = capped (count * (capped_extent of_struct of).size); align = (capped_extent of_struct of).align }) || writes_large of_struct of
+    is_large (capped_times count (capped_extent of_struct of)) || writes_large of_struct of
 writes_large of_struct (Struct name) = is_large (of_struct name)
 
 -- one of the types is

@@ -1,5 +1,5 @@
--- The first fault of a layout: a type that is defined twice, then one that is unknown, then one that holds itself, then one that is too large; and of each
--- kind the first in the order of the text.
+-- The first fault of a layout: a type that is defined twice, then one that is unknown, then one that holds itself,
+-- then one that is too large; and of each kind the first in the order of the text.
 use Rattle.std.specs.Prelude.{◌≡◌, All}
 use Rattle.ds_ast.specs.declared.module.Module.{Module}
 use Rattle.ds_names.specs.Names.{AreDistinct, IsFirstTwice}
@@ -23,5 +23,9 @@ HasShapeFault m (TwiceType name) = IsFirstTwice (struct_names m.structs) name
 HasShapeFault m (Unknown name) = AreDistinct (struct_names m.structs) × IsFirst (IsUnknown m) (written_names m) name
 HasShapeFault m (RecursiveType name) = HasLines m × IsFirst (IsRecursive m.structs) (struct_names m.structs) name
 HasShapeFault m (TooLarge name is_struct) =
-    HasDepth m × ((l : Line) × IsFirst (λ (l : Line). AnyTooLarge m.structs l.types) (lines_of m) l × (l.name ≡ name) × (l.is_struct ≡ is_struct))
+    HasDepth m
+    × ((l : Line)
+    × IsFirst (λ (l : Line). AnyTooLarge m.structs l.types) (lines_of m) l
+    × (l.name ≡ name)
+    × (l.is_struct ≡ is_struct))
 HasShapeFault m Memory = ⊥

@@ -2,6 +2,9 @@ pub mod Sizes
 pub mod Written
 pub mod Externals
 pub mod Operands
+pub mod Address
+pub mod Image
+pub mod Site
 pub mod Types
 pub mod Flow
 pub mod Breaches

@@ -1,4 +1,5 @@
--- The types that are written in a module, and which are faults. The order is that of the canonical text: struct types, globals, functions.
+-- The types that are written in a module, and which are faults. The order is that of the canonical text: struct types,
+-- globals, functions.
 use Rattle.std.specs.Prelude.{◌≡◌, ◌<◌, ◌^◌, Bool, true, false, ◌⊎◌, List, [], ◌∷◌, ◌++◌, map, flat_map, Some, All}
 use Rattle.ds_ast.specs.declared.name.Name.{Name}
 use Rattle.ds_ast.specs.declared.ty.Ty.{Ty, Void, One, Struct, Array', more_of-Ty, end_of-Ty}
@@ -102,7 +103,8 @@ IsUnknown m name = Among name (struct_names m.structs) → ⊥
 
 -- the struct of the first name holds one of the second by value, itself or in an array, however many elements that has
 abbrev pub Holds : List StructDef → Name → Name → Type 0
-Holds structs name held = (fields : List Ty) × (fields_of structs name ≡ Some fields) × Among held (flat_map struct_in fields)
+Holds structs name held =
+    (fields : List Ty) × (fields_of structs name ≡ Some fields) × Among held (flat_map struct_in fields)
 
 -- the struct of the first name holds one of the last, by way of these
 abbrev pub HoldsThrough : List StructDef → Name → List Name → Name → Type 0
@@ -121,7 +123,8 @@ IsTooLarge structs t = (e : Extent) × HasExtent structs t e × (2 ^ 31 < e.size
 abbrev pub WritesTooLarge : List StructDef → Ty → Type 0
 WritesTooLarge structs Void = ⊥
 WritesTooLarge structs (One s) = ⊥
-WritesTooLarge structs (Array' count _ (more_of-Ty of end_of-Ty)) = IsTooLarge structs (ty.Array count of) ⊎ WritesTooLarge structs of
+WritesTooLarge structs (Array' count _ (more_of-Ty of end_of-Ty)) =
+    IsTooLarge structs (ty.Array count of) ⊎ WritesTooLarge structs of
 WritesTooLarge structs (Struct name) = IsTooLarge structs (Struct name)
 
 -- some type of the line does

@@ -166,7 +166,8 @@ fn offsets_of_fields(
     fields: &[Ty],
 ) -> Result<Vec<u64>, AllocError>
     requires { All IsShort extents.now }
-    ensures { IfOk result (λ offsets. offsets.items ≡ capped_offsets (capped_extent (extent_in names.now extents.now)) 0 fields.now) }
+    ensures { IfOk result
+        (λ offsets. offsets.items ≡ capped_offsets (capped_extent (extent_in names.now extents.now)) 0 fields.now) }
 {
     let mut offsets = Vec::new(alloc);
     let mut at = 0;

@@ -5,8 +5,8 @@ use ds_ast::Name;
 use std::alloc::AllocError;
 use thiserror::Error;
 
-/// Why a module has no layout. Of the faults that a module has, the first is told: in this order of kinds, and within each in the order of the text: struct
-/// types, globals, functions.
+/// Why a module has no layout. Of the faults that a module has, the first is told: in this order of kinds, and within
+/// each in the order of the text: struct types, globals, functions.
 #[derive(Debug, Drop, Error)]
 pub enum ShapeFault {
     /// A struct type has a second line.

@@ -68,7 +68,8 @@ fn unknown_in_types<'a>(names: &Names, types: &[&'a Ty]) -> Option<&'a Name>
 
 /// The first struct type in these lines that has no line.
 pub fn first_unknown<'a>(names: &Names, lines: &[WrittenLine<'a>]) -> Option<&'a Name>
-    ensures { option_copied result ≡ first_unplaced names.now (flat_map (λ l. flat_map written.struct_in l.types) (lines_in lines.now)) }
+    ensures { option_copied result ≡ first_unplaced names.now
+        (flat_map (λ l. flat_map written.struct_in l.types) (lines_in lines.now)) }
 {
     for line in lines {
         if let Some(name) = unknown_in_types(names, line.types.as_slice()) {

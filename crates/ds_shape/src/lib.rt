@@ -1,7 +1,7 @@
 //! What the sizes of types are, the layout of a module's types, and which modules are accepted.
 #![tactic(auto)]
 
-ghost use Rattle.ds_shape.specs.Laws.{ExtentsAreUnique, ExtentsExist, OffsetsAreUnique, OffsetsExist, LayoutsAreNotRefused, OneFirstFault, WrittenTypesFit, FieldsFit, ElementsFit};
+ghost use Rattle.ds_shape.specs.Laws.{ExtentsAreUnique, ExtentsExist, ExtentsAreComputed, OffsetsAreUnique, OffsetsExist, OffsetsAreComputed, LayoutsAreNotRefused, OneFirstFault, WrittenTypesFit, FieldsFit, ElementsFit, AddressesAreSteps, WordsAreCounted, GlobalsAreLaidOut};
 
 mod extents;
 mod fault;
@@ -25,6 +25,17 @@ pub fn extents_are_unique()
 /// A field has at most one offset.
 pub fn offsets_are_unique()
     ensures { OffsetsAreUnique }
+{}
+
+/// What a type's size and alignment are at some depth of structs is found as many structs deep as the module has
+/// lines.
+pub fn extents_are_computed()
+    ensures { ExtentsAreComputed }
+{}
+
+/// And so is the offset of a field.
+pub fn offsets_are_computed()
+    ensures { OffsetsAreComputed }
 {}
 
 /// In a module whose struct types are known and hold themselves nowhere each type that is written has a size.
@@ -60,4 +71,19 @@ pub fn fields_fit()
 /// Where an array fits, its elements do.
 pub fn elements_fit()
     ensures { ElementsFit }
+{}
+
+/// The indices of an address keep the rule of types exactly where each of them leads on, by so many bytes.
+pub fn addresses_are_steps()
+    ensures { AddressesAreSteps }
+{}
+
+/// The globals of a module that has a layout begin with as many words as they have.
+pub fn words_are_counted()
+    ensures { WordsAreCounted }
+{}
+
+/// And each has its own from its location on.
+pub fn globals_are_laid_out()
+    ensures { GlobalsAreLaidOut }
 {}

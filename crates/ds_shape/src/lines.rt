@@ -50,7 +50,8 @@ fn push_type_of_op<'a>(types: &mut Vec<&'a Ty>, op: &'a Op) -> Result<(), AllocE
 
 /// Adds the types that instructions write.
 fn push_types_of_code<'a>(types: &mut Vec<&'a Ty>, code: &'a [Instr]) -> Result<(), AllocError>
-    ensures { OnOk result (types_in types.new.items ≡ types_in types.old.items ++ flat_map (λ i. written.types_of_op i.op) code.now) }
+    ensures { OnOk result
+        (types_in types.new.items ≡ types_in types.old.items ++ flat_map (λ i. written.types_of_op i.op) code.now) }
 {
     for instr in code {
         push_type_of_op(types, &instr.op)?;
@@ -87,7 +88,8 @@ fn push_structs<'a>(
     lines: &mut Vec<WrittenLine<'a>>,
     structs: &'a [StructDef],
 ) -> Result<(), AllocError>
-    ensures { OnOk result (lines_in lines.new.items ≡ lines_in lines.old.items ++ map written.struct_line structs.now) }
+    ensures { OnOk result
+        (lines_in lines.new.items ≡ lines_in lines.old.items ++ map written.struct_line structs.now) }
 {
     for def in structs {
         let types = types_of_fields(alloc, def.fields.as_slice())?;
@@ -106,7 +108,8 @@ fn push_globals<'a>(
     lines: &mut Vec<WrittenLine<'a>>,
     globals: &'a [GlobalDef],
 ) -> Result<(), AllocError>
-    ensures { OnOk result (lines_in lines.new.items ≡ lines_in lines.old.items ++ map written.global_line globals.now) }
+    ensures { OnOk result
+        (lines_in lines.new.items ≡ lines_in lines.old.items ++ map written.global_line globals.now) }
 {
     for def in globals {
         let mut types = Vec::new(alloc);
@@ -126,7 +129,8 @@ fn push_functions<'a>(
     lines: &mut Vec<WrittenLine<'a>>,
     functions: &'a [Function],
 ) -> Result<(), AllocError>
-    ensures { OnOk result (lines_in lines.new.items ≡ lines_in lines.old.items ++ map written.function_line functions.now) }
+    ensures { OnOk result
+        (lines_in lines.new.items ≡ lines_in lines.old.items ++ map written.function_line functions.now) }
 {
     for def in functions {
         let types = types_of_function(alloc, def)?;

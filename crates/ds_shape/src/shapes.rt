@@ -1,11 +1,12 @@
 //! The layout of a module's types.
-ghost use Rattle.std.specs.Prelude.{◌≡◌, ◌⊎◌, ℕ, IfOk, IfErr, option_copied};
+ghost use Rattle.std.specs.Prelude.{◌≡◌, ◌⊎◌, ℕ, Err, IfOk, IfErr, option_copied};
 ghost use Rattle.ds_ast.specs.Bounds as bounds;
 ghost use Rattle.ds_ast.specs.declared.ty.Ty.{Struct};
 ghost use Rattle.ds_shape.specs.Sizes.{Extent, HasExtent, HasOffset};
 ghost use Rattle.ds_shape.specs.Accepted.{HasLayout};
 ghost use Rattle.ds_shape.specs.Fault.{HasShapeFault};
 ghost use Rattle.ds_shape.specs.Fits.{Fits, HasField};
+ghost use Rattle.ds_shape.specs.declared.fault.ShapeFault.{ShapeFault};
 ghost use Rattle.ds_shape.specs.declared.fault.ShapeFault.TheVariants as faults;
 
 use crate::extents::{CappedExtent, extent_of, extents_in_order, offsets_of};
@@ -45,9 +46,21 @@ impl<'a> Model for Shapes<'a> {
 
 /// The layout of a module: of its types, how many bytes each has, and where the fields of each struct begin.
 ///
-/// A fault is the module's first; `Memory` comes only where there is not enough of it, or where there are 2^32 struct lines. The work for a text of n bytes
-/// is in the order of n log n, and the stack that it takes is in the order of the arrays that nest in one type, at most 32 within a module's bounds.
+/// A module has a layout or a first fault, which is told; `Memory` comes only where there is not enough of it, or
+/// where there are 2^32 struct lines. The work for a text of n bytes is in the order of n log n, and the stack that it
+/// takes is in the order of the arrays that nest in one type, at most 32 within a module's bounds.
 pub fn layout<'a>(alloc: Global, whole: &'a Module) -> Result<Shapes<'a>, ShapeFault>
+    ensures laid_out { IfOk result (λ shapes. HasLayout whole.now × (shapes ≡ whole.now.structs)) }
+    ensures only { HasLayout whole.now → IfErr result (λ fault. fault ≡ faults.Memory) }
+    ensures refused { IfErr result (λ fault. (fault ≡ faults.Memory) ⊎ HasShapeFault whole.now fault) }
+    ensures first { (fault : ShapeFault) → HasShapeFault whole.now fault →
+        (result ≡ Err fault) ⊎ (result ≡ Err faults.Memory) }
+{
+    lay_out(alloc, whole)
+}
+
+/// The layout or a fault, step by step.
+fn lay_out<'a>(alloc: Global, whole: &'a Module) -> Result<Shapes<'a>, ShapeFault>
     ensures laid_out { IfOk result (λ shapes. HasLayout whole.now × (shapes ≡ whole.now.structs)) }
     ensures refused { IfErr result (λ fault. (fault ≡ faults.Memory) ⊎ HasShapeFault whole.now fault) }
 {

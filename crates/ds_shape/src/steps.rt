@@ -20,7 +20,8 @@ use std::alloc::Global;
 /// Refuses the first struct type in these lines that has no line.
 pub fn refuse_unknown(alloc: Global, names: &Names, lines: &[WrittenLine]) -> Result<(), ShapeFault>
     ensures ok { IfOk result (λ done. first_unplaced names.now (names_in (lines_in lines.now)) ≡ None) }
-    ensures err { IfErr result (λ fault. (fault ≡ faults.Memory) ⊎ IsUnknownFault names.now (lines_in lines.now) fault) }
+    ensures err { IfErr result
+        (λ fault. (fault ≡ faults.Memory) ⊎ IsUnknownFault names.now (lines_in lines.now) fault) }
 {
     match first_unknown(names, lines) {
         Some(name) => {
@@ -44,7 +45,8 @@ fn recursive(alloc: Global, structs: &[StructDef], place: u32) -> ShapeFault
     }
 }
 
-/// An order of the struct lines, each behind those that it holds, or the first that holds itself. There is no memory for 2^32 lines.
+/// An order of the struct lines, each behind those that it holds, or the first that holds itself. There is no memory
+/// for 2^32 lines.
 pub fn ordered(alloc: Global, names: &Names, structs: &[StructDef]) -> Result<Vec<u32>, ShapeFault>
     requires named { names.now ≡ struct_names structs.now }
     requires distinct { AreDistinct (struct_names structs.now) }
@@ -72,7 +74,8 @@ pub fn refuse_too_large(
 ) -> Result<(), ShapeFault>
     requires { All IsShort extents.now }
     ensures ok { IfOk result (λ done. All (λ l. IsLarge names.now extents.now l → ⊥) (lines_in lines.now)) }
-    ensures err { IfErr result (λ fault. (fault ≡ faults.Memory) ⊎ IsLargeFault names.now extents.now (lines_in lines.now) fault) }
+    ensures err { IfErr result
+        (λ fault. (fault ≡ faults.Memory) ⊎ IsLargeFault names.now extents.now (lines_in lines.now) fault) }
 {
     for line in lines {
         if any_too_large(names, extents, line.types.as_slice()) {

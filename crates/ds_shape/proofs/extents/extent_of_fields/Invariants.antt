@@ -8,5 +8,6 @@ invariant-loop-ty l = record {
   at_most : l.at ≤ 2 ^ 31 + 1;
   some_align : 1 ≤ l.align;
   align_most : l.align ≤ 8;
-  rest : capped_fields (capped_extent (extent_in l.names l.extents)) l.at l.align (drop l.ty-index l.fields) ≡ capped_fields (capped_extent (extent_in l.names l.extents)) 0 1 l.fields;
+  rest : capped_fields (capped_extent (extent_in l.names l.extents)) l.at l.align (drop l.ty-index l.fields) ≡
+      capped_fields (capped_extent (extent_in l.names l.extents)) 0 1 l.fields;
 }

@@ -6,5 +6,6 @@ use Rattle.ds_shape.proofs.extents.offsets_of_fields.Given as goal
 abbrev pub invariant-loop-ty : goal.invariant-loop-ty
 invariant-loop-ty l = record {
   at_most : l.at ≤ 2 ^ 31 + 1;
-  rest : l.offsets.items ++ capped_offsets (capped_extent (extent_in l.names l.extents)) l.at (drop l.ty-index l.fields) ≡ capped_offsets (capped_extent (extent_in l.names l.extents)) 0 l.fields;
+  rest : l.offsets.items ++ capped_offsets (capped_extent (extent_in l.names l.extents)) l.at
+      (drop l.ty-index l.fields) ≡ capped_offsets (capped_extent (extent_in l.names l.extents)) 0 l.fields;
 }

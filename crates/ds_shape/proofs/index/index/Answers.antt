@@ -9,5 +9,6 @@ returns-then-not-is_new-clause-err c =
     inr (
       c.line-item.result.name,
       ap faults.TwiceType c.in_ok-name.ensures,
-      twice_at c.args.structs.now c.loop-line.names c.loop-line.line-index c.line-item.result c.loop-line-test.true c.line-item.is c.loop-line.invariant.0 c.loop-line.invariant.1 there.0,
+      twice_at c.args.structs.now c.loop-line.names c.loop-line.line-index c.line-item.result c.loop-line-test.true
+          c.line-item.is c.loop-line.invariant.0 c.loop-line.invariant.1 there.0,
     )

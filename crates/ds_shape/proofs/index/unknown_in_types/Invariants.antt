@@ -6,4 +6,6 @@ use Rattle.ds_shape.proofs.index.unknown_in_types.Given as goal
 
 -- the first is the first of those from here on
 abbrev pub invariant-loop-ty : goal.invariant-loop-ty
-invariant-loop-ty l = first_unplaced l.names (flat_map struct_in (types_in (drop l.ty-index l.types))) ≡ first_unplaced l.names (flat_map struct_in (types_in l.types))
+invariant-loop-ty l =
+    first_unplaced l.names (flat_map struct_in (types_in (drop l.ty-index l.types))) ≡ first_unplaced l.names
+    (flat_map struct_in (types_in l.types))

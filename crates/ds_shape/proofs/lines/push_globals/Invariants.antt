@@ -6,4 +6,5 @@ use Rattle.ds_shape.proofs.lines.push_globals.Given as goal
 
 -- the lines so far were added
 abbrev pub invariant-loop-def : goal.invariant-loop-def
-invariant-loop-def l = lines_in l.lines.items ≡ lines_in l.fn.lines.items ++ map global_line (take l.def-index l.globals)
+invariant-loop-def l =
+    lines_in l.lines.items ≡ lines_in l.fn.lines.items ++ map global_line (take l.def-index l.globals)

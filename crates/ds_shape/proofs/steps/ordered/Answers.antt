@@ -7,4 +7,6 @@ use Rattle.ds_shape.proofs.steps.ordered.Goals as goal
 
 pub order-requires-clause-closed : goal.order-requires-clause-closed
 order-requires-clause-closed c =
-    subst IsClosed (sym (c.in_ok-graph.ensures ∙ ap (λ (ns : List Name). holdings ns c.args.structs.now) c.requires.named)) (are_closed c.args.structs.now c.requires.distinct)
+    subst IsClosed
+    (sym (c.in_ok-graph.ensures ∙ ap (λ (ns : List Name). holdings ns c.args.structs.now) c.requires.named))
+    (are_closed c.args.structs.now c.requires.distinct)

@@ -16,6 +16,7 @@ returns-in-Ok c =
       c.args.place,
       refl,
       inside,
-      c.in-Ok.ensures ∙ ap (λ (s : StructDef). s.name) c.index-structs-place.is ∙ sym (get_or-map (λ (s : StructDef). s.name) c.args.structs.now c.args.place line c.in-Ok.name inside),
+      c.in-Ok.ensures ∙ ap (λ (s : StructDef). s.name) c.index-structs-place.is
+          ∙ sym (get_or-map (λ (s : StructDef). s.name) c.args.structs.now c.args.place line c.in-Ok.name inside),
       c.requires.cycle,
     )

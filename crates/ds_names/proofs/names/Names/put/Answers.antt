@@ -5,7 +5,8 @@ use Rattle.ds_names.proofs.names.Names.put.Goals as goal
 
 pub returns-then-is_some-clause-there : goal.returns-then-is_some-clause-there
 returns-then-is_some-clause-there c = λ f. (
-  found_among (nows c.self.inside.names.items) c.args.self.now c.args.name.now c.get.result _ c.get.ensures (c.self.invariant.1 c.args.name.now) c.self.view_is
+  found_among (nows c.self.inside.names.items) c.args.self.now c.args.name.now c.get.result _ c.get.ensures
+      (c.self.invariant.1 c.args.name.now) c.self.view_is
       (sym c.is_some.ensures ∙ c.if-is_some.true),
   refl,
 )
@@ -14,8 +15,10 @@ pub invariant_of-self-in-Ok : goal.invariant_of-self-in-Ok
 invariant_of-self-in-Ok c =
     let none = sym c.is_some.ensures ∙ c.if-is_some.false in let placed = c.self.invariant.1 c.args.name.now in
     let len : c.len-at.result ≡ length c.self.inside.names.items = search in (
-      put_distinct c.self.inside.names.items c.push.new.self.items c.args.name c.get.result _ c.in_ok-push.ensures.items c.get.ensures placed none c.self.invariant.0,
-      λ q. put_placed c.self.inside.names.items c.push.new.self.items c.args.name c.get.result _ c.in_ok-push.ensures.items c.get.ensures placed none q c.len-at.result _ _
+      put_distinct c.self.inside.names.items c.push.new.self.items c.args.name c.get.result _
+          c.in_ok-push.ensures.items c.get.ensures placed none c.self.invariant.0,
+      λ q. put_placed c.self.inside.names.items c.push.new.self.items c.args.name c.get.result _
+          c.in_ok-push.ensures.items c.get.ensures placed none q c.len-at.result _ _
           len (c.self.invariant.1 q) (c.in-Ok.ensures.ok q),
     )
 

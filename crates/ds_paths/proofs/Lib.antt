@@ -1,4 +1,0 @@
-pub mod Climbs
-pub mod Dominance
-pub mod Marks
-pub mod Searching

@@ -1,5 +1,0 @@
-pub mod Certificate
-pub mod Known
-pub mod Paths
-pub mod Search
-pub mod Tree
