@@ -5,7 +5,7 @@ use Rattle.ds_grammar.specs.Sort.{Lexeme, Sort, TypeOf}
 use Rattle.ds_grammar.specs.Grammar.{Mark, Grammar, Loop, optional}
 use Rattle.ds_grammar.specs.Form.{Form, Front, IsFront, DeadEnd}
 use Rattle.ds_grammar.specs.Fault.{dead_fault, IsFault, IsWorst}
-use Rattle.ds_grammar.specs.Parsed.{Spells, answer, IsAnswer, SpellWhole, RefuseWhole, whole_answer, IsWholeAnswer}
+use Rattle.ds_grammar.specs.Parsed.{Spells, Refuses, answer, IsAnswer, SpellWhole, RefuseWhole, whole_answer, IsWholeAnswer}
 use Rattle.ds_grammar.specs.Lexemes.{AreInside}
 use Rattle.ds_lex.specs.declared.token.Token.{Token}
 use Rattle.ds_lex.specs.Lexed.{Lexed}
@@ -81,6 +81,10 @@ AnswersAreExact = (a : Sort) (g : Grammar a) (ts : List Lexeme) (end : ℕ) → 
 abbrev pub SpelledIsAnswered : Type 0
 SpelledIsAnswered = (a : Sort) (g : Grammar a) (ts : List Lexeme) (end : ℕ) (v : TypeOf a) (n : ℕ) → Spells g ts v n → (left : ℕ) × (answer (value_at g (start ts end)) ≡ Ok (v, left)) × (n + left ≡ length ts)
 
+-- tokens that are refused with a fault are answered with it, so that there is one fault at most
+abbrev pub RefusedIsAnswered : Type 0
+RefusedIsAnswered = (a : Sort) (g : Grammar a) (ts : List Lexeme) (end : ℕ) (f : ParseFault) → Refuses g ts end f → answer (value_at g (start ts end)) ≡ Err f
+
 -- the answer to what is read of a whole text is what its tokens say
 abbrev pub WholeAnswersAreExact : Type 0
 WholeAnswersAreExact = (a : Sort) (g : Grammar a) (ts : List Lexeme) (end : ℕ) → IsWholeAnswer g ts end (whole_answer (value_at g (start ts end)))
@@ -88,6 +92,10 @@ WholeAnswersAreExact = (a : Sort) (g : Grammar a) (ts : List Lexeme) (end : ℕ)
 -- tokens that spell a value as a whole are answered with it
 abbrev pub WholesAreAnswered : Type 0
 WholesAreAnswered = (a : Sort) (g : Grammar a) (ts : List Lexeme) (end : ℕ) (v : TypeOf a) → SpellWhole g ts v → whole_answer (value_at g (start ts end)) ≡ Ok v
+
+-- tokens that are refused as a whole with a fault are answered with it, so that there is one fault at most
+abbrev pub RefusedWholesAreAnswered : Type 0
+RefusedWholesAreAnswered = (a : Sort) (g : Grammar a) (ts : List Lexeme) (end : ℕ) (f : ParseFault) → RefuseWhole g ts end f → whole_answer (value_at g (start ts end)) ≡ Err f
 
 -- the tokens of a text lie in it, from each place on as many as one likes
 abbrev pub TokensLieInside : Type 0

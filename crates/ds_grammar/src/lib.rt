@@ -3,7 +3,7 @@
 //! A caller calls the function and uses what it ensures. The laws speak of every grammar.
 #![tactic(auto)]
 
-ghost use Rattle.ds_grammar.specs.Laws.{FormsAreUnique, MarksAreUnique, PrefixesAreFronts, DeadEndsExist, DeadEndsAreUnique, ReadingIsExact, FormsAreRead, RunsTakeItems, RunsEnd, RunsStop, OptionalsAreRead, ReadingsTakeTokens, AnswersAreExact, SpelledIsAnswered, TokensLieInside, WholeAnswersAreExact, WholesAreAnswered, WholesAreNotRefused};
+ghost use Rattle.ds_grammar.specs.Laws.{FormsAreUnique, MarksAreUnique, PrefixesAreFronts, DeadEndsExist, DeadEndsAreUnique, ReadingIsExact, FormsAreRead, RunsTakeItems, RunsEnd, RunsStop, OptionalsAreRead, ReadingsTakeTokens, AnswersAreExact, SpelledIsAnswered, RefusedIsAnswered, TokensLieInside, WholeAnswersAreExact, WholesAreAnswered, WholesAreNotRefused, RefusedWholesAreAnswered};
 
 mod fault;
 mod item;
@@ -67,6 +67,7 @@ pub fn readings_take_tokens()
 pub fn answers_are_exact()
     ensures exact { AnswersAreExact }
     ensures spelled { SpelledIsAnswered }
+    ensures fault { RefusedIsAnswered }
 {}
 
 /// The answer to what is read of a whole text is what its tokens say, where a breach is a fault and so is a token that is left.
@@ -74,6 +75,7 @@ pub fn whole_answers_are_exact()
     ensures exact { WholeAnswersAreExact }
     ensures spelled { WholesAreAnswered }
     ensures refused { WholesAreNotRefused }
+    ensures fault { RefusedWholesAreAnswered }
 {}
 
 /// The tokens of a text lie in it.
