@@ -1,5 +1,5 @@
 -- The statements of the laws about grammars.
-use Rattle.std.specs.Prelude.{◌≡◌, ℕ, List, [], ◌++◌, Option, Ok, Err, ◌≤◌, length, take, drop, Some, None, ◌+◌}
+use Rattle.std.specs.Prelude.{◌≡◌, ℕ, List, [], ◌++◌, Option, Ok, Err, ◌<◌, ◌≤◌, length, take, drop, Some, None, ◌+◌}
 use Rattle.ds_grammar.specs.declared.fault.ParseFault.{ParseFault}
 use Rattle.ds_grammar.specs.Sort.{Lexeme, Sort, TypeOf}
 use Rattle.ds_grammar.specs.Grammar.{Mark, Grammar, Loop, optional}
@@ -72,6 +72,12 @@ OptionalsAreRead = (a b : Sort) (test : Lexeme → Option (TypeOf a)) (rest : Ty
 -- behind what was read no more tokens are left than before it
 abbrev pub ReadingsTakeTokens : Type 0
 ReadingsTakeTokens = (a : Sort) (g : Grammar a) (p q : Place) (v : TypeOf a) → value_at g p ≡ Ok (v, q) → length q.left ≤ length p.left
+
+-- behind an item of a run fewer tokens are left than before it: its first token was taken
+abbrev pub ItemsTakeTokens : Type 0
+ItemsTakeTokens =
+    (b a : Sort) (test : Lexeme → Option (TypeOf b)) (v : TypeOf b) (g : Grammar a) (r : TypeOf a) (p q : Place)
+    → first_value test p.left ≡ Some v → value_at g (past p) ≡ Ok (r, q) → length q.left < length p.left
 
 -- the answer to what is read is what the tokens say
 abbrev pub AnswersAreExact : Type 0

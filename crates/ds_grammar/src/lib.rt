@@ -3,7 +3,7 @@
 //! A caller calls the function and uses what it ensures. The laws speak of every grammar.
 #![tactic(auto)]
 
-ghost use Rattle.ds_grammar.specs.Laws.{FormsAreUnique, MarksAreUnique, PrefixesAreFronts, DeadEndsExist, DeadEndsAreUnique, ReadingIsExact, FormsAreRead, RunsTakeItems, RunsEnd, RunsStop, OptionalsAreRead, ReadingsTakeTokens, AnswersAreExact, SpelledIsAnswered, RefusedIsAnswered, TokensLieInside, WholeAnswersAreExact, WholesAreAnswered, WholesAreNotRefused, RefusedWholesAreAnswered};
+ghost use Rattle.ds_grammar.specs.Laws.{FormsAreUnique, MarksAreUnique, PrefixesAreFronts, DeadEndsExist, DeadEndsAreUnique, ReadingIsExact, FormsAreRead, RunsTakeItems, RunsEnd, RunsStop, OptionalsAreRead, ReadingsTakeTokens, ItemsTakeTokens, AnswersAreExact, SpelledIsAnswered, RefusedIsAnswered, TokensLieInside, WholeAnswersAreExact, WholesAreAnswered, WholesAreNotRefused, RefusedWholesAreAnswered};
 
 mod fault;
 mod item;
@@ -61,6 +61,11 @@ pub fn optionals_are_read()
 /// Behind what was read no more tokens are left than before it.
 pub fn readings_take_tokens()
     ensures { ReadingsTakeTokens }
+{}
+
+/// Behind an item of a run fewer tokens are left than before it.
+pub fn items_take_tokens()
+    ensures { ItemsTakeTokens }
 {}
 
 /// The answer to what is read is what the tokens say, where a breach is a fault.

@@ -1,4 +1,3 @@
-pub mod Taken
 pub mod Optional
 pub mod Marks
 pub mod Inside

@@ -9,7 +9,7 @@ use crate::lines::taking_row;
 use crate::names::{counted, numbered, risen, taken_mark, written_mark};
 use crate::ops::{has_result, is_terminator};
 use ds_ast::{Block, Instr, List, Name, Op};
-use ds_grammar::{Begin, Head, Mark, ParseFault, readings_take_tokens, runs_go_on};
+use ds_grammar::{Begin, Head, Mark, ParseFault, items_take_tokens, runs_go_on};
 use ds_lex::TokenKind;
 use ds_parse_instr::{head_of, row_of};
 use ds_reader::{Rest, name_of, punct, token_name};
@@ -336,7 +336,7 @@ pub fn body_from<'a>(
     ensures { Gives result (value_at (functions.body_from counter) rest.entry) }
 {
     runs_go_on();
-    readings_take_tokens();
+    items_take_tokens();
     let mut rest = rest;
     let mut body = OpenBody::new(alloc, counter);
     while let Some(line) = body.next_line(alloc, &rest)? {

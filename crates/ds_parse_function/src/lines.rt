@@ -7,7 +7,7 @@ ghost use Rattle.ds_parse_function.specs.Runs as runs;
 
 use crate::ops::has_values;
 use ds_ast::{Op, Ty};
-use ds_grammar::{Head, Mark, ParseFault, RunItem, readings_take_tokens, runs_go_on};
+use ds_grammar::{Head, Mark, ParseFault, RunItem, items_take_tokens, runs_go_on};
 use ds_parse_instr::{arguments, row_of};
 use ds_reader::{
     Arrays, Rest, array_front, base_type, closed_type, endings, global, ignored_from, ignored_run,
@@ -40,7 +40,7 @@ fn taking_fronts<'a>(
     ensures { Gives result (value_at (runs.taking_fronts (mark ∷ []) (0, [])) rest.entry) }
 {
     runs_go_on();
-    readings_take_tokens();
+    items_take_tokens();
     let mut rest = rest;
     let mut opened = Arrays::new(alloc);
     while let Some(at) = next_array(&rest) {

@@ -8,7 +8,7 @@ ghost use Rattle.ds_parse_function.specs.Runs as runs;
 use crate::declared::next_parameter;
 use crate::names::{counted, numbered, risen, taken_mark, written_mark};
 use ds_ast::{List, Name, Param, Scalar};
-use ds_grammar::{Mark, ParseFault, optionals_are_read, readings_take_tokens, runs_go_on};
+use ds_grammar::{Mark, ParseFault, items_take_tokens, optionals_are_read, runs_go_on};
 use ds_lex::TokenKind;
 use ds_reader::{Rest, ignored_run, local_name, punct, scalar_of};
 use std::alloc::{AllocError, Global};
@@ -225,7 +225,7 @@ fn parameters_from<'a>(
     ensures { Gives result (value_at (runs.parameters_from (record { params = []; counter = 0; pending = [] })) rest.entry) }
 {
     runs_go_on();
-    readings_take_tokens();
+    items_take_tokens();
     let mut rest = rest;
     let mut params = CountedParameters::new(alloc);
     while let Some(item) = params.next(&rest) {

@@ -1,4 +1,3 @@
-pub mod Taken
 pub mod Runs
 pub mod Again
 pub mod Fields

@@ -4,7 +4,7 @@ ghost use Rattle.ds_grammar.specs.Reading.{Gives, first_value, value_at};
 ghost use Rattle.ds_grammar.specs.Globals as globals;
 
 use ds_ast::{List, Name, StructDef, Ty};
-use ds_grammar::{ParseFault, readings_take_tokens, runs_go_on};
+use ds_grammar::{ParseFault, items_take_tokens, runs_go_on};
 use ds_lex::TokenKind;
 use ds_reader::{
     Arrays, Rest, array_front, arrays_from, base_type, closed_type, is_punct, punct, type_of, word,
@@ -129,7 +129,7 @@ fn types<'a>(alloc: Global, rest: Rest<'a>) -> Result<(List<Ty>, Rest<'a>), Pars
     ensures { Gives result (value_at globals.types rest.entry) }
 {
     runs_go_on();
-    readings_take_tokens();
+    items_take_tokens();
     let mut rest = rest;
     let mut types = List::new(alloc);
     while let Some(item) = next_type(alloc, &types, &rest)? {

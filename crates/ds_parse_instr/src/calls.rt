@@ -5,7 +5,7 @@ ghost use Rattle.ds_grammar.specs.Instructions as instructions;
 
 use crate::trails::is_empty;
 use ds_ast::{Op, Operand, Ops, Scalar};
-use ds_grammar::{ParseFault, readings_take_tokens, runs_go_on};
+use ds_grammar::{ParseFault, items_take_tokens, runs_go_on};
 use ds_lex::TokenKind;
 use ds_reader::{
     Rest, endings, global, ignored_run, is_punct, punct, scalar, scalar_of, type_of, value,
@@ -80,7 +80,7 @@ pub fn arguments<'a>(alloc: Global, rest: Rest<'a>) -> Result<(Ops<Operand>, Res
     ensures { Gives result (value_at instructions.arguments rest.entry) }
 {
     runs_go_on();
-    readings_take_tokens();
+    items_take_tokens();
     let mut rest = rest;
     let mut arguments = Ops::new(alloc);
     while let Some(item) = next_argument(&arguments, &rest) {

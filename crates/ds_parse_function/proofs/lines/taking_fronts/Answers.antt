@@ -4,7 +4,6 @@ use Rattle.ds_grammar.specs.Reading.{value_at}
 use Rattle.ds_grammar.specs.Types.{array_place}
 use Rattle.ds_grammar.specs.Functions.{taking_front}
 use Rattle.ds_parse_function.specs.Runs.{taking_fronts}
-use Rattle.ds_parse_function.proofs.Taken.{item_takes}
 use Rattle.ds_parse_function.proofs.lines.taking_fronts.Goals as goal
 
 pub loop-at-preserved : goal.loop-at-preserved
@@ -17,6 +16,6 @@ loop-at-preserved c =
 
 pub loop-at-smaller : goal.loop-at-smaller
 loop-at-smaller c =
-    item_takes c.readings_take_tokens.ensures (λ t. array_place t.kind t.bytes t.at) c.in-Some.at (both_of a_number (list_of a_number))
+    c.items_take_tokens.ensures a_number (both_of a_number (list_of a_number)) (λ t. array_place t.kind t.bytes t.at) c.in-Some.at
     (taking_front (c.args.mark ∷ []) c.loop-at.opened c.in-Some.at) c.in_ok-inner.inner c.loop-at.rest c.in_ok-inner.behind
     (sym c.in-Some.ensures) (ap (value_at (taking_front (c.args.mark ∷ []) c.loop-at.opened c.in-Some.at)) (sym c.past.ensures) ∙ c.in_ok-inner.ensures)
