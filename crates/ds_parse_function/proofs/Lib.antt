@@ -1,3 +1,2 @@
 pub mod Optional
 pub mod Marks
-pub mod Inside

@@ -11,6 +11,3 @@ mod parameters;
 
 pub use declared::declare_line;
 pub use functions::define_line;
-
-#[cfg(test)]
-mod tests;

@@ -3,4 +3,3 @@ pub mod Again
 pub mod Fields
 pub mod Depth
 pub mod Keyed
-pub mod Inside

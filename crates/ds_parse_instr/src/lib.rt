@@ -14,6 +14,3 @@ mod trails;
 pub use calls::arguments;
 pub use dispatch::{head_of, row_of};
 pub use parser::parse_instr;
-
-#[cfg(test)]
-mod tests;
