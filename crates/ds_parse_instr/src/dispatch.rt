@@ -1,11 +1,12 @@
 //! An instruction, by what begins it.
-ghost use Rattle.std.specs.Prelude.{◌≡◌, None, false, if◌then◌else◌, option_map};
+ghost use Rattle.std.specs.Prelude.{◌≡◌, Bool, None, false, not, if◌then◌else◌, option_map, IsTrue};
 ghost use Rattle.ds_grammar.specs.declared.item.Head.TheVariants as head;
 ghost use Rattle.ds_grammar.specs.Reading.{Gives, value_at};
 ghost use Rattle.ds_grammar.specs.Rows as rows;
 ghost use Rattle.ds_grammar.specs.Instructions as instructions;
 ghost use Rattle.ds_grammar.specs.Instructions.{if_none};
 ghost use Rattle.ds_grammar.specs.Tokens.{lookup};
+ghost use Rattle.ds_parse_instr.specs.Heads as heads;
 
 use crate::arithmetic::{binary_row, cast_row, icmp_row, select_row};
 use crate::calls::call_row;
@@ -111,6 +112,86 @@ fn ignored_call<'a>(
     call_row(alloc, named, rest)
 }
 
+/// Whether an instruction on memory begins so.
+fn is_memory(head: Head) -> bool
+    ensures { result ≡ heads.is_memory head }
+{
+    matches!(
+        head,
+        Head::Alloca
+            | Head::Load
+            | Head::Store
+            | Head::Gep
+            | Head::Rmw
+            | Head::Cmpxchg
+            | Head::Fence
+    )
+}
+
+/// Whether a terminator begins so.
+fn is_end(head: Head) -> bool
+    ensures { result ≡ heads.is_end head }
+{
+    matches!(
+        head,
+        Head::Ret | Head::Br | Head::Switch | Head::Unreachable
+    )
+}
+
+/// The row of an instruction on memory.
+fn memory_row<'a>(alloc: Global, head: Head, rest: Rest<'a>) -> Result<(Op, Rest<'a>), ParseFault>
+    requires { IsTrue (heads.is_memory head) }
+    ensures { (named : Bool) → Gives result (value_at (instructions.row_of named head) rest.entry) }
+{
+    match head {
+        Head::Alloca => alloca_row(alloc, rest),
+        Head::Load => load_row(alloc, rest),
+        Head::Store => store_row(alloc, rest),
+        Head::Gep => gep_row(alloc, rest),
+        Head::Rmw => rmw_row(alloc, rest),
+        Head::Cmpxchg => cmpxchg_row(alloc, rest),
+        Head::Fence => fence_row(rest),
+        _ => unreachable!(),
+    }
+}
+
+/// The row of a terminator.
+fn end_row<'a>(alloc: Global, head: Head, rest: Rest<'a>) -> Result<(Op, Rest<'a>), ParseFault>
+    requires { IsTrue (heads.is_end head) }
+    ensures { (named : Bool) → Gives result (value_at (instructions.row_of named head) rest.entry) }
+{
+    match head {
+        Head::Ret => ret_row(alloc, rest),
+        Head::Br => br_row(alloc, rest),
+        Head::Switch => switch_row(alloc, rest),
+        Head::Unreachable => unreachable_row(rest),
+        _ => unreachable!(),
+    }
+}
+
+/// The row of any other instruction.
+fn value_row<'a>(
+    alloc: Global,
+    named: bool,
+    head: Head,
+    rest: Rest<'a>,
+) -> Result<(Op, Rest<'a>), ParseFault>
+    requires { IsTrue (not (heads.is_memory head)) × IsTrue (not (heads.is_end head)) }
+    ensures { Gives result (value_at (instructions.row_of named head) rest.entry) }
+{
+    match head {
+        Head::Binary(op) => binary_row(alloc, op, rest),
+        Head::Cast(op) => cast_row(alloc, op, rest),
+        Head::Icmp => icmp_row(alloc, rest),
+        Head::Select => select_row(alloc, rest),
+        Head::Call => call_row(alloc, named, rest),
+        Head::Phi => phi_row(alloc, rest),
+        Head::Extract => extract_row(alloc, rest),
+        Head::Ignored(item) => ignored_call(alloc, named, item, rest),
+        _ => unreachable!(),
+    }
+}
+
 /// The row that begins so, behind the name of a result or not.
 pub fn row_of<'a>(
     alloc: Global,
@@ -120,26 +201,12 @@ pub fn row_of<'a>(
 ) -> Result<(Op, Rest<'a>), ParseFault>
     ensures { Gives result (value_at (instructions.row_of named head) rest.entry) }
 {
-    match head {
-        Head::Binary(op) => binary_row(alloc, op, rest),
-        Head::Cast(op) => cast_row(alloc, op, rest),
-        Head::Icmp => icmp_row(alloc, rest),
-        Head::Select => select_row(alloc, rest),
-        Head::Alloca => alloca_row(alloc, rest),
-        Head::Load => load_row(alloc, rest),
-        Head::Store => store_row(alloc, rest),
-        Head::Gep => gep_row(alloc, rest),
-        Head::Call => call_row(alloc, named, rest),
-        Head::Phi => phi_row(alloc, rest),
-        Head::Rmw => rmw_row(alloc, rest),
-        Head::Cmpxchg => cmpxchg_row(alloc, rest),
-        Head::Extract => extract_row(alloc, rest),
-        Head::Fence => fence_row(rest),
-        Head::Ret => ret_row(alloc, rest),
-        Head::Br => br_row(alloc, rest),
-        Head::Switch => switch_row(alloc, rest),
-        Head::Unreachable => unreachable_row(rest),
-        Head::Ignored(item) => ignored_call(alloc, named, item, rest),
+    if is_memory(head) {
+        memory_row(alloc, head, rest)
+    } else if is_end(head) {
+        end_row(alloc, head, rest)
+    } else {
+        value_row(alloc, named, head, rest)
     }
 }
 
