@@ -10,10 +10,6 @@ use ds_grammar::{optionals_are_read, reading_is_exact, runs_go_on};
 use ds_lex::{decimals_are_read, written_texts_are_lexed};
 use ds_parse::{texts_are_not_refused, texts_spell_one_module};
 
-mod round_trip;
-
-pub use round_trip::parse_printed;
-
 /// The tokens that the canonical text of a module is written of are read as that module, up to the last of them and with
 /// nothing out of its bound.
 pub fn canonical_tokens_are_read()
