@@ -3,8 +3,8 @@ use Rattle.std.proofs.Common.{◌≡◌, ℕ, zero, suc, ◌<◌, ◌≤◌, Lis
 use Rattle.std.specs.Prelude.{Option, Some, None, Ok, Err}
 use Rattle.ds_grammar.specs.Sort.{Lexeme, Sort, TypeOf, maybe}
 use Rattle.ds_grammar.specs.Grammar.{Grammar, Done, Then, Loop, optional_test}
-use Rattle.ds_grammar.specs.Reading.{Place, Reading, then_at, round_at, rounds_at, first_value, tail, past, value_at, optional_at}
-use Rattle.ds_grammar.specs.Laws.{OptionalsAreRead, ReadingsTakeTokens, ItemsTakeTokens, RunsTakeItems, RunsEnd, RunsStop}
+use Rattle.ds_grammar.specs.Reading.{Place, Reading, then_at, round_at, rounds_at, first_value, tail, past, marked, value_at, optional_at}
+use Rattle.ds_grammar.specs.Laws.{OptionalsAreRead, ReadingsTakeTokens, ItemsTakeTokens, MarksAreRead, RunsTakeItems, RunsEnd, RunsStop}
 use Rattle.ds_grammar.proofs.Outcome.{Outcome, got, short, dead, read}
 use Rattle.ds_grammar.proofs.More.{Within, within}
 use Rattle.ds_grammar.proofs.Threaded.{settled, value_is}
@@ -121,3 +121,7 @@ shorter test v (t ∷ ts) n e l = omega (arith, l)
 
 pub items_take : ItemsTakeTokens
 items_take b a test v g r p q e h = shorter test v p.left (length q.left) e (takes a g (past p) q r h)
+
+pub marks : MarksAreRead
+marks a [] g p = refl
+marks a (m ∷ ms) g p = marks a ms g (marked p m)

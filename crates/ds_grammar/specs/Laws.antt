@@ -2,14 +2,14 @@
 use Rattle.std.specs.Prelude.{◌≡◌, ℕ, List, [], ◌++◌, Option, Ok, Err, ◌<◌, ◌≤◌, length, take, drop, Some, None, ◌+◌}
 use Rattle.ds_grammar.specs.declared.fault.ParseFault.{ParseFault}
 use Rattle.ds_grammar.specs.Sort.{Lexeme, Sort, TypeOf}
-use Rattle.ds_grammar.specs.Grammar.{Mark, Grammar, Loop, optional}
+use Rattle.ds_grammar.specs.Grammar.{Mark, Grammar, Loop, marked_by, optional}
 use Rattle.ds_grammar.specs.Form.{Form, Front, IsFront, DeadEnd}
 use Rattle.ds_grammar.specs.Fault.{dead_fault, IsFault, IsWorst}
 use Rattle.ds_grammar.specs.Parsed.{Spells, Refuses, answer, IsAnswer, SpellWhole, RefuseWhole, whole_answer, IsWholeAnswer}
 use Rattle.ds_grammar.specs.Lexemes.{AreInside}
 use Rattle.ds_lex.specs.declared.token.Token.{Token}
 use Rattle.ds_lex.specs.Lexed.{Lexed}
-use Rattle.ds_grammar.specs.Reading.{Place, start, Reading, first_value, optional_at, value_at, past}
+use Rattle.ds_grammar.specs.Reading.{Place, start, Reading, first_value, optional_at, value_at, past, marked_all}
 
 -- tokens have at most one value and one list of marks
 abbrev pub FormsAreUnique : Type 0
@@ -68,6 +68,10 @@ RunsStop = (s a : Sort) (test : TypeOf s → Lexeme → Option (TypeOf a)) (item
 abbrev pub OptionalsAreRead : Type 0
 OptionalsAreRead = (a b : Sort) (test : Lexeme → Option (TypeOf a)) (rest : TypeOf a → Grammar b) (p : Place) →
     value_at (optional a test rest) p ≡ optional_at (λ v q. value_at (rest v) q) (first_value test p.left) p
+
+-- marks before a form are marks of the place
+abbrev pub MarksAreRead : Type 0
+MarksAreRead = (a : Sort) (ms : List Mark) (g : Grammar a) (p : Place) → value_at (marked_by ms g) p ≡ value_at g (marked_all p ms)
 
 -- behind what was read no more tokens are left than before it
 abbrev pub ReadingsTakeTokens : Type 0

@@ -3,7 +3,7 @@
 //! A caller calls the function and uses what it ensures. The laws speak of every grammar.
 #![tactic(auto)]
 
-ghost use Rattle.ds_grammar.specs.Laws.{FormsAreUnique, MarksAreUnique, PrefixesAreFronts, DeadEndsExist, DeadEndsAreUnique, ReadingIsExact, FormsAreRead, RunsTakeItems, RunsEnd, RunsStop, OptionalsAreRead, ReadingsTakeTokens, ItemsTakeTokens, AnswersAreExact, SpelledIsAnswered, RefusedIsAnswered, TokensLieInside, WholeAnswersAreExact, WholesAreAnswered, WholesAreNotRefused, RefusedWholesAreAnswered};
+ghost use Rattle.ds_grammar.specs.Laws.{FormsAreUnique, MarksAreUnique, PrefixesAreFronts, DeadEndsExist, DeadEndsAreUnique, ReadingIsExact, FormsAreRead, RunsTakeItems, RunsEnd, RunsStop, OptionalsAreRead, MarksAreRead, ReadingsTakeTokens, ItemsTakeTokens, AnswersAreExact, SpelledIsAnswered, RefusedIsAnswered, TokensLieInside, WholeAnswersAreExact, WholesAreAnswered, WholesAreNotRefused, RefusedWholesAreAnswered};
 
 mod fault;
 mod item;
@@ -56,6 +56,11 @@ pub fn runs_go_on()
 /// A part that may be missing is read where the next token begins it.
 pub fn optionals_are_read()
     ensures { OptionalsAreRead }
+{}
+
+/// Marks before a form are marks of the place.
+pub fn marks_are_read()
+    ensures { MarksAreRead }
 {}
 
 /// Behind what was read no more tokens are left than before it.

@@ -1,2 +1,1 @@
 pub mod Optional
-pub mod Marks

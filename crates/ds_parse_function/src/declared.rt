@@ -157,7 +157,7 @@ pub fn declare_line<'a>(alloc: Global, rest: Rest<'a>) -> Result<(Function, Rest
 {
     let rest = metadata_pairs(rest)?;
     let (_, rest) = ignored_run(alloc, rest)?;
-    let (result_type, rest) = type_of(alloc, true, rest)?;
+    let (result_type, rest) = type_of(alloc, true, None, rest)?;
     let (name, rest) = global(alloc, rest)?;
     let rest = punct(b"(", rest)?;
     let (params, rest) = declared_parameters(alloc, rest)?;

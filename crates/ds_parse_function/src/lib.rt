@@ -4,7 +4,6 @@
 mod body;
 mod declared;
 mod functions;
-mod lines;
 mod names;
 mod ops;
 mod parameters;

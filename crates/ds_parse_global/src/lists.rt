@@ -36,7 +36,7 @@ fn array_rest<'a>(alloc: Global, at: u32, rest: Rest<'a>) -> Result<(Ty, Rest<'a
     ensures { Gives result (value_at (globals.type_rest (None, at)) rest.entry) }
 {
     let (first, rest) = array_front(Arrays::new(alloc), at, rest)?;
-    let (opened, rest) = arrays_from(first, rest)?;
+    let (opened, rest) = arrays_from(None, first, rest)?;
     let read = match rest.peek() {
         Some((kind, bytes, _)) => base_type(alloc, true, kind, bytes)?,
         None => None,
@@ -116,7 +116,7 @@ fn types_more<'a>(
             Ok((types, rest))
         }
         None => {
-            let (ty, rest) = type_of(alloc, true, rest)?;
+            let (ty, rest) = type_of(alloc, true, None, rest)?;
             types.push(ty)?;
             Ok((types, rest))
         }

@@ -1,4 +1,5 @@
--- Groups of what begins an instruction, so that each function that reads one matches on a few. Helpers of the code: no public clause cites them.
+-- HELPERS of the code, which no public clause cites: groups of what begins an instruction, so that each function
+-- that reads one matches on a few.
 use Rattle.std.specs.Prelude.{Bool, true, false}
 use Rattle.ds_grammar.specs.declared.item.Head.{Head}
 use Rattle.ds_grammar.specs.declared.item.Head.TheVariants.{Alloca, Load, Store, Gep, Rmw, Cmpxchg, Fence, Ret, Br, Switch, Unreachable}

@@ -1,6 +1,6 @@
 //! Calls that the program does not make, each with ample memory.
 use crate::parse_printed;
-use ds_ast::{Bytes, Function, Instr, List, Module, Name, Op, Ty};
+use ds_ast::{Function, Instr, List, Module, Name, Op, Ty};
 use ds_lex::lex;
 use ds_parse_instr::parse_instr;
 use ds_print::print;
