@@ -1,10 +1,10 @@
 -- A run is one round, and then the run from the state that it gives.
-use Rattle.std.proofs.Common.{◌≡◌, ℕ, zero, suc, ◌≤◌, List, [], ◌∷◌, length, refl, sym, ◌∙◌, subst, arith, ap}
+use Rattle.std.proofs.Common.{◌≡◌, ℕ, zero, suc, ◌<◌, ◌≤◌, List, [], ◌∷◌, length, refl, sym, ◌∙◌, subst, arith, ap}
 use Rattle.std.specs.Prelude.{Option, Some, None, Ok, Err}
 use Rattle.ds_grammar.specs.Sort.{Lexeme, Sort, TypeOf, maybe}
 use Rattle.ds_grammar.specs.Grammar.{Grammar, Done, Then, Loop, optional_test}
-use Rattle.ds_grammar.specs.Reading.{Place, Reading, then_at, round_at, rounds_at, first_value, tail, past, value_at, optional_at}
-use Rattle.ds_grammar.specs.Laws.{OptionalsAreRead, ReadingsTakeTokens, RunsTakeItems, RunsEnd, RunsStop}
+use Rattle.ds_grammar.specs.Reading.{Place, Reading, then_at, round_at, rounds_at, first_value, tail, past, marked, value_at, optional_at}
+use Rattle.ds_grammar.specs.Laws.{OptionalsAreRead, ReadingsTakeTokens, ItemsTakeTokens, MarksAreRead, RunsTakeItems, RunsEnd, RunsStop}
 use Rattle.ds_grammar.proofs.Outcome.{Outcome, got, short, dead, read}
 use Rattle.ds_grammar.proofs.More.{Within, within}
 use Rattle.ds_grammar.proofs.Threaded.{settled, value_is}
@@ -114,3 +114,14 @@ optionals a b test rest p = runs_on (maybe b) a (begins a b test rest) (λ s v. 
 
 pub takes : ReadingsTakeTokens
 takes a g p q v e = let P : Reading (TypeOf a) → Type 0 = LeavesAtMost (length p.left) in subst P e (leaves g p)
+
+shorter : {A : Type 0} (test : Lexeme → Option A) (v : A) (ts : List Lexeme) (n : ℕ) → first_value test ts ≡ Some v → n ≤ length (tail ts) → n < length ts
+shorter test v [] n e l = absurd (cc e)
+shorter test v (t ∷ ts) n e l = omega (arith, l)
+
+pub items_take : ItemsTakeTokens
+items_take b a test v g r p q e h = shorter test v p.left (length q.left) e (takes a g (past p) q r h)
+
+pub marks : MarksAreRead
+marks a [] g p = refl
+marks a (m ∷ ms) g p = marks a ms g (marked p m)

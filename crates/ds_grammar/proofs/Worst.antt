@@ -1,92 +1,94 @@
--- The breach that is kept is the least.
-use Rattle.std.proofs.Common.{◌≡◌, ◌≤◌, Bool, true, false, List, [], ◌∷◌, refl, ap, inl, inr, ◌⊎◌, arith}
+-- The breach that is kept is the least, by the earliest mark; there is one at most.
+use Rattle.std.proofs.Common.{◌≡◌, ◌≤◌, ◌<◌, Bool, true, false, List, [], ◌∷◌, ◌++◌, refl, sym, ap, ◌∙◌, subst, inl, inr, ◌⊎◌, arith}
 use Rattle.std.proofs.lemmas.Bool.{ltb-true, ltb-false}
+use Rattle.std.proofs.lemmas.List.{append-nil, append_assoc}
 use Rattle.std.specs.Prelude.{Option, Some, None, nat_lt, if◌then◌else◌}
 use Rattle.ds_grammar.specs.declared.fault.Breach.{Breach}
 use Rattle.ds_grammar.specs.declared.fault.ParseFault.{ParseFault}
 use Rattle.ds_grammar.specs.Grammar.{Mark}
-use Rattle.ds_grammar.specs.Fault.{IsBreachIn, IsWorst, IsFault}
+use Rattle.ds_grammar.specs.Fault.{IsBreachIn, IsLeastBreach, IsWorst, IsFault}
 use Rattle.ds_grammar.specs.Reading.{lesser, worse, refusal}
 use Rattle.ds_grammar.proofs.Threaded.{worst_of}
 
--- the breach that is kept
-abbrev IsKept : Option Breach → Breach → Type 0
-IsKept None b = ⊥
-IsKept (Some c) b = c ≡ b
+-- what the marks make that are two lists in a row
+made_of : (ks ls : List Mark) (b : Breach) → IsBreachIn (ks ++ ls) b → IsBreachIn ks b ⊎ IsBreachIn ls b
+made_of [] ls b h = inr h
+made_of (k ∷ ks) ls b (inl h) = inl (inl h)
+made_of (k ∷ ks) ls b (inr h) = more (made_of ks ls b h)
+  where
+    more : IsBreachIn ks b ⊎ IsBreachIn ls b → IsBreachIn (k ∷ ks) b ⊎ IsBreachIn ls b
+    more (inl x) = inl (inr x)
+    more (inr x) = inr x
 
--- a breach that is kept from before, or is made by one of these marks
-abbrev Among : Option Breach → List Mark → Breach → Type 0
-Among w ms b = IsKept w b ⊎ IsBreachIn ms b
+pub made_right : (ks ls : List Mark) (b : Breach) → IsBreachIn ls b → IsBreachIn (ks ++ ls) b
+made_right [] ls b h = h
+made_right (k ∷ ks) ls b h = inr (made_right ks ls b h)
 
--- the least of these breaches, or there is none
-abbrev IsWorstFrom : Option Breach → List Mark → Option Breach → Type 0
-IsWorstFrom w ms None = (b : Breach) → Among w ms b → ⊥
-IsWorstFrom w ms (Some b) = Among w ms b × ((c : Breach) → Among w ms c → b.at ≤ c.at)
+-- the least breach is made
+pub least_made : (ms : List Mark) (b : Breach) → IsLeastBreach ms b → IsBreachIn ms b
+least_made ms b h = subst (λ ls. IsBreachIn ls b) (sym h.split) (made_right h.before (h.mark ∷ h.behind) b (inl (h.made, h.is)))
 
--- one step: the new kept breach is the old one or the mark's, and none of these is less
-record Steps (w : Option Breach) (m : Mark) (r : Option Breach) : Type 0 where
-  from : (b : Breach) → IsKept r b → IsKept w b ⊎ ((m.within ≡ false) × (m.breach ≡ b))
-  kept : (b : Breach) → IsKept w b → (c : Breach) × IsKept r c × (c.at ≤ b.at)
-  made : (m.within ≡ false) → (c : Breach) × IsKept r c × (c.at ≤ m.breach.at)
+-- none is less
+least_of : (ms : List Mark) (b : Breach) → IsLeastBreach ms b → (c : Breach) → IsBreachIn ms c → b.at ≤ c.at
+least_of ms b h c x = by_part (made_of h.before (h.mark ∷ h.behind) c (subst (λ ls. IsBreachIn ls c) h.split x))
+  where
+    by_part : IsBreachIn h.before c ⊎ IsBreachIn (h.mark ∷ h.behind) c → b.at ≤ c.at
+    by_part (inl y) = let lt = h.earliest c y in omega (arith, lt)
+    by_part (inr (inl y)) = let same = ap (λ (x : Breach). x.at) (sym h.is) in let at = ap (λ (x : Breach). x.at) y.1 in omega (arith, same, at)
+    by_part (inr (inr y)) = h.least c y
 
-steps_lesser : (c : Breach) (m : Mark) → m.within ≡ false → (t : Bool) → nat_lt m.breach.at c.at ≡ t → Steps (Some c) m (if t then Some m.breach else Some c)
-steps_lesser c m out true e = record {
-  from = λ b is. inr (out, is);
-  kept = λ b is. (m.breach, refl, let lt = ltb-true m.breach.at c.at e in let at = ap (λ (x : Breach). x.at) is in omega (arith, lt, at));
-  made = λ o. (m.breach, refl, omega arith);
+-- ONE MARK MORE
+
+none_more : (ms : List Mark) (m : Mark) → m.within ≡ true → IsWorst ms None → IsWorst (ms ++ m ∷ []) None
+none_more ms m e h b x = by_part (made_of ms (m ∷ []) b x)
+  where
+    by_part : IsBreachIn ms b ⊎ IsBreachIn (m ∷ []) b → ⊥
+    by_part (inl y) = h b y
+    by_part (inr (inl y)) = cc (e, y.0)
+    by_part (inr (inr y)) = y
+
+-- the least breach stays where the mark makes no lesser one
+stays : (ms : List Mark) (m : Mark) (b : Breach) → (m.within ≡ false → b.at ≤ m.breach.at) → IsLeastBreach ms b → IsLeastBreach (ms ++ m ∷ []) b
+stays ms m b le h = record {
+  before = h.before;
+  mark = h.mark;
+  behind = h.behind ++ m ∷ [];
+  split = ap (λ ls. ls ++ m ∷ []) h.split ∙ append_assoc h.before (h.mark ∷ h.behind) (m ∷ []);
+  made = h.made;
+  is = h.is;
+  earliest = h.earliest;
+  least = λ c x. by_part c (made_of h.behind (m ∷ []) c x);
 }
-steps_lesser c m out false e = record {
-  from = λ b is. inl is;
-  kept = λ b is. (b, is, omega arith);
-  made = λ o. (c, refl, ltb-false m.breach.at c.at e);
-}
-
-steps_worse : (w : Option Breach) (m : Mark) (t : Bool) → m.within ≡ t → Steps w m (if t then w else lesser w m.breach)
-steps_worse w m true e = record { from = λ b is. inl is; kept = λ b is. (b, is, omega arith); made = λ o. absurd (cc (e, o)) }
-steps_worse None m false e = record { from = λ b is. inr (e, is); kept = λ b is. absurd is; made = λ o. (m.breach, refl, omega arith) }
-steps_worse (Some c) m false e = steps_lesser c m e (nat_lt m.breach.at c.at) refl
-
-among_back : (w r : Option Breach) (m : Mark) (ms : List Mark) → Steps w m r → (b : Breach) → Among r ms b → Among w (m ∷ ms) b
-among_back w r m ms s b (inl h) = among_kept (s.from b h)
   where
-    among_kept : IsKept w b ⊎ ((m.within ≡ false) × (m.breach ≡ b)) → Among w (m ∷ ms) b
-    among_kept (inl k) = inl k
-    among_kept (inr k) = inr (inl k)
-among_back w r m ms s b (inr h) = inr (inr h)
+    by_part : (c : Breach) → IsBreachIn h.behind c ⊎ IsBreachIn (m ∷ []) c → b.at ≤ c.at
+    by_part c (inl y) = h.least c y
+    by_part c (inr (inl y)) = let at = ap (λ (x : Breach). x.at) y.1 in let l = le y.0 in omega (arith, at, l)
+    by_part c (inr (inr y)) = absurd y
 
--- no breach among them is less than all that are kept or made behind the mark
-among_on : (w r : Option Breach) (m : Mark) (ms : List Mark) → Steps w m r → (b : Breach) → Among w (m ∷ ms) b → (c : Breach) × Among r ms c × (c.at ≤ b.at)
-among_on w r m ms s b (inl h) = let k = s.kept b h in (k.0, inl k.1, k.2)
-among_on w r m ms s b (inr (inl (out, is))) = let k = s.made out in (k.0, inl k.1, let at = ap (λ (x : Breach). x.at) is in omega (arith, at, k.2))
-among_on w r m ms s b (inr (inr h)) = (b, inr h, omega arith)
+-- the mark makes a breach at a lesser place than all before it
+taken : (ms : List Mark) (m : Mark) → m.within ≡ false → ((c : Breach) → IsBreachIn ms c → m.breach.at < c.at) → IsLeastBreach (ms ++ m ∷ []) m.breach
+taken ms m out lt = record { before = ms; mark = m; behind = []; split = refl; made = out; is = refl; earliest = lt; least = λ c x. absurd x }
 
-worst_step : (w r : Option Breach) (m : Mark) (ms : List Mark) → Steps w m r → (o : Option Breach) → IsWorstFrom r ms o → IsWorstFrom w (m ∷ ms) o
-worst_step w r m ms s None h = λ b a. let k = among_on w r m ms s b a in h k.0 k.1
-worst_step w r m ms s (Some b) (a, least) = (among_back w r m ms s b a, λ c x. let k = among_on w r m ms s c x in let le = least k.0 k.1 in omega (arith, le, k.2))
+lesser_more : (ms : List Mark) (m : Mark) (c : Breach) (t : Bool) → m.within ≡ false → nat_lt m.breach.at c.at ≡ t → IsLeastBreach ms c
+    → IsWorst (ms ++ m ∷ []) (if t then Some m.breach else Some c)
+lesser_more ms m c true out e h = taken ms m out (λ d x. let lt = ltb-true m.breach.at c.at e in let le = least_of ms c h d x in omega (arith, lt, le))
+lesser_more ms m c false out e h = stays ms m c (λ o. ltb-false m.breach.at c.at e) h
 
-worst_none : (w : Option Breach) → IsWorstFrom w [] w
-worst_none None = λ b a. none_among b a
-  where
-    none_among : (b : Breach) → Among None [] b → ⊥
-    none_among b (inl h) = h
-    none_among b (inr h) = h
-worst_none (Some b) = (inl refl, λ c a. least c a)
-  where
-    least : (c : Breach) → Among (Some b) [] c → b.at ≤ c.at
-    least c (inl h) = let at = ap (λ (x : Breach). x.at) h in omega (arith, at)
-    least c (inr h) = absurd h
+worse_more : (ms : List Mark) (m : Mark) (w : Option Breach) (t : Bool) → m.within ≡ t → IsWorst ms w → IsWorst (ms ++ m ∷ []) (if t then w else lesser w m.breach)
+worse_more ms m None true e h = none_more ms m e h
+worse_more ms m (Some c) true e h = stays ms m c (λ o. absurd (cc (e, o))) h
+worse_more ms m None false e h = taken ms m e (λ c x. absurd (h c x))
+worse_more ms m (Some c) false e h = lesser_more ms m c (nat_lt m.breach.at c.at) e refl h
 
-worst_from : (w : Option Breach) (ms : List Mark) → IsWorstFrom w ms (worst_of w ms)
-worst_from w [] = worst_none w
-worst_from w (m ∷ ms) = worst_step w (worse w m) m ms (steps_worse w m m.within refl) (worst_of (worse w m) ms) (worst_from (worse w m) ms)
+-- ALL MARKS
 
-worst_plain : (ms : List Mark) (o : Option Breach) → IsWorstFrom None ms o → IsWorst ms o
-worst_plain ms None h = λ b x. h b (inr x)
-worst_plain ms (Some b) (inl k, least) = absurd k
-worst_plain ms (Some b) (inr k, least) = record { made = k; least = λ c x. least c (inr x) }
+worst_behind : (ks ls : List Mark) (w : Option Breach) → IsWorst ks w → IsWorst (ks ++ ls) (worst_of w ls)
+worst_behind ks [] w h = subst (λ ms. IsWorst ms w) (sym (append-nil ks)) h
+worst_behind ks (m ∷ ls) w h =
+    subst (λ ms. IsWorst ms (worst_of (worse w m) ls)) (append_assoc ks (m ∷ []) ls) (worst_behind (ks ++ m ∷ []) ls (worse w m) (worse_more ks m w m.within refl h))
 
 pub worst_is : (ms : List Mark) → IsWorst ms (worst_of None ms)
-worst_is ms = worst_plain ms (worst_of None ms) (worst_from None ms)
+worst_is ms = worst_behind [] ms None (λ b x. x)
 
 fault_by : (ms : List Mark) (f : ParseFault) (o : Option Breach) → IsWorst ms o → IsFault ms f (refusal o f)
 fault_by ms f None h = inr (h, refl)
@@ -94,3 +96,31 @@ fault_by ms f (Some b) h = inl (b, h, refl)
 
 pub fault_is : (ms : List Mark) (f : ParseFault) → IsFault ms f (refusal (worst_of None ms) f)
 fault_is ms f = fault_by ms f (worst_of None ms) (worst_is ms)
+
+-- THERE IS ONE AT MOST
+
+-- of two marks at which a list is split, each the least, neither stands before the other
+one_mark : (before before' behind behind' : List Mark) (m m' : Mark) → before ++ m ∷ behind ≡ before' ++ m' ∷ behind' → m.within ≡ false → m'.within ≡ false
+    → ((c : Breach) → IsBreachIn before c → m.breach.at < c.at) → ((c : Breach) → IsBreachIn behind c → m.breach.at ≤ c.at)
+    → ((c : Breach) → IsBreachIn before' c → m'.breach.at < c.at) → ((c : Breach) → IsBreachIn behind' c → m'.breach.at ≤ c.at) → m ≡ m'
+one_mark [] [] rs ss m m' e out out' lt le lt' le' = cc (e)
+one_mark [] (x ∷ xs) rs ss m m' e out out' lt le lt' le' =
+    let same : m ≡ x = cc (e) in
+    let left : rs ≡ xs ++ m' ∷ ss = cc (e) in
+    let p = lt' m.breach (inl (subst (λ (k : Mark). (k.within ≡ false) × (k.breach ≡ m.breach)) same (out, refl))) in
+    let q = le m'.breach (subst (λ ls. IsBreachIn ls m'.breach) (sym left) (made_right xs (m' ∷ ss) m'.breach (inl (out', refl)))) in
+    absurd (omega (arith, p, q))
+one_mark (x ∷ xs) [] rs ss m m' e out out' lt le lt' le' =
+    let same : x ≡ m' = cc (e) in
+    let left : xs ++ m ∷ rs ≡ ss = cc (e) in
+    let p = lt m'.breach (inl (subst (λ (k : Mark). (k.within ≡ false) × (k.breach ≡ m'.breach)) (sym same) (out', refl))) in
+    let q = le' m.breach (subst (λ ls. IsBreachIn ls m.breach) left (made_right xs (m ∷ rs) m.breach (inl (out, refl)))) in
+    absurd (omega (arith, p, q))
+one_mark (x ∷ xs) (y ∷ ys) rs ss m m' e out out' lt le lt' le' =
+    one_mark xs ys rs ss m m' (cc (e)) out out' (λ c h. lt c (inr h)) le (λ c h. lt' c (inr h)) le'
+
+pub one_least : (ms : List Mark) (b c : Breach) → IsLeastBreach ms b → IsLeastBreach ms c → b ≡ c
+one_least ms b c h k =
+    sym h.is ∙ ap (λ (m : Mark). m.breach) (one_mark h.before k.before h.behind k.behind h.mark k.mark (sym h.split ∙ k.split) h.made k.made
+    (λ d x. subst (λ (a : Breach). a.at < d.at) (sym h.is) (h.earliest d x)) (λ d x. subst (λ (a : Breach). a.at ≤ d.at) (sym h.is) (h.least d x))
+    (λ d x. subst (λ (a : Breach). a.at < d.at) (sym k.is) (k.earliest d x)) (λ d x. subst (λ (a : Breach). a.at ≤ d.at) (sym k.is) (k.least d x))) ∙ k.is

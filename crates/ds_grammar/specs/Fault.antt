@@ -1,5 +1,5 @@
 -- With which fault tokens are refused.
-use Rattle.std.specs.Prelude.{◌≡◌, ℕ, ◌≤◌, false, if◌then◌else◌, ◌⊎◌, List, [], ◌∷◌, Option, Some, None}
+use Rattle.std.specs.Prelude.{◌≡◌, ℕ, ◌<◌, ◌≤◌, false, if◌then◌else◌, ◌⊎◌, List, [], ◌∷◌, ◌++◌, Option, Some, None}
 use Rattle.ds_grammar.specs.declared.fault.Bound.{Bound}
 use Rattle.ds_grammar.specs.declared.fault.Bound.TheVariants.{Range, Depth}
 use Rattle.ds_grammar.specs.declared.fault.Breach.{Breach}
@@ -19,10 +19,17 @@ IsBreachIn (m ∷ ms) b = ((m.within ≡ false) × (m.breach ≡ b)) ⊎ IsBreac
 abbrev pub AreWithin : List Mark → Type 0
 AreWithin ms = (b : Breach) → IsBreachIn ms b → ⊥
 
--- this breach is made, and none is made at a lesser place
+-- The least breach, and of those at one place the earliest: each breach of the marks before its own stands at a
+-- greater place, and none of the marks behind it at a lesser one.
 pub record IsLeastBreach (ms : List Mark) (b : Breach) : Type 0 where
-  pub made : IsBreachIn ms b
-  pub least : (c : Breach) → IsBreachIn ms c → b.at ≤ c.at
+  pub before : List Mark
+  pub mark : Mark
+  pub behind : List Mark
+  pub split : ms ≡ before ++ mark ∷ behind
+  pub made : mark.within ≡ false
+  pub is : mark.breach ≡ b
+  pub earliest : (c : Breach) → IsBreachIn before c → b.at < c.at
+  pub least : (c : Breach) → IsBreachIn behind c → b.at ≤ c.at
 
 -- the least breach, or that there is none
 abbrev pub IsWorst : List Mark → Option Breach → Type 0

@@ -1,5 +1,5 @@
 -- The forms of functions, and of the whole module.
-use Rattle.std.specs.Prelude.{ℕ, ◌+◌, ◌-◌, ◌%◌, ◌^◌, min, Bool, true, false, not, ◌&&◌, nat_lt, nat_le, if◌then◌else◌, List, [], ◌∷◌, ◌++◌, take, length, Option, Some, None, is_some, option_map, codes}
+use Rattle.std.specs.Prelude.{ℕ, ◌+◌, ◌-◌, ◌%◌, ◌^◌, min, Bool, true, false, not, nat_lt, nat_le, if◌then◌else◌, List, [], ◌∷◌, ◌++◌, take, length, Option, Some, None, is_some, option_map, codes}
 use Rattle.std.specs.Str.{bytes_eq}
 use Rattle.ds_lex.specs.declared.token.TokenKind.{TokenKind}
 use Rattle.ds_lex.specs.declared.token.TokenKind.TheVariants as kind
@@ -7,25 +7,22 @@ use Rattle.ds_ast.specs.declared.name.Name.{Name}
 use Rattle.ds_ast.specs.declared.name.Name.TheVariants as name
 use Rattle.ds_ast.specs.declared.ty.Scalar.{Scalar}
 use Rattle.ds_ast.specs.declared.instr.Op.{Op}
-use Rattle.ds_ast.specs.declared.instr.Op.TheVariants as op
 use Rattle.ds_ast.specs.declared.instr.Instr.{Instr}
 use Rattle.ds_ast.specs.declared.module.Module.{Module}
 use Rattle.ds_ast.specs.declared.module.Param.{Param}
 use Rattle.ds_ast.specs.declared.module.Block.{Block}
-use Rattle.ds_ast.specs.Bounds.{has_values, has_result, is_terminator}
+use Rattle.ds_ast.specs.Bounds.{has_result, is_terminator}
 use Rattle.ds_grammar.specs.declared.fault.Mark.{Mark}
 use Rattle.ds_grammar.specs.declared.item.Begin.{Begin}
 use Rattle.ds_grammar.specs.declared.item.Begin.TheVariants as begin
-use Rattle.ds_grammar.specs.declared.item.Head.{Head}
-use Rattle.ds_grammar.specs.declared.item.Head.TheVariants as head
 use Rattle.ds_grammar.specs.declared.item.Entity.{Entity}
 use Rattle.ds_grammar.specs.declared.item.Entity.TheVariants as entity
-use Rattle.ds_grammar.specs.Sort.{Body, Params, no_value, a_number, a_name, a_scalar, a_ty, an_op, a_param, a_block, a_function, a_module, a_begin, a_head, an_entity, a_body, some_params, both_of, list_of, maybe}
-use Rattle.ds_grammar.specs.Grammar.{Grammar, Done, One, Then, Marked, Loop, ◌>>=◌, optional}
+use Rattle.ds_grammar.specs.Sort.{Body, Params, no_value, a_number, a_name, a_scalar, a_param, a_block, a_function, a_module, a_begin, a_head, an_entity, a_body, some_params, both_of, list_of, maybe}
+use Rattle.ds_grammar.specs.Grammar.{Grammar, Done, One, Then, Marked, Loop, ◌>>=◌, marked_by, optional}
 use Rattle.ds_grammar.specs.Tokens.{word_in, scalar_words, token_name, name_of, range_mark}
-use Rattle.ds_grammar.specs.Rows.{fact, is_punct, punct, is_word, word, scalar, local_name, ignored_from, ignored_run, run_rest, endings, balanced}
-use Rattle.ds_grammar.specs.Instructions.{global, head_of, row_of, arguments}
-use Rattle.ds_grammar.specs.Types.{Arrays, is_flat, array_place, array_front, base_type, closed_type, type_of}
+use Rattle.ds_grammar.specs.Rows.{fact, is_punct, punct, is_word, scalar, local_name, ignored_run, balanced}
+use Rattle.ds_grammar.specs.Instructions.{global, head_of, row_of}
+use Rattle.ds_grammar.specs.Types.{type_of}
 use Rattle.ds_grammar.specs.Globals.{struct_line, global_line}
 use Rattle.ds_grammar.specs.Form.{Form}
 use Rattle.ds_grammar.specs.Fault.{AreWithin}
@@ -56,11 +53,6 @@ counted (name.Text bytes) counter = counter
 -- the name that a number is
 abbrev pub numbered : ℕ → Name
 numbered n = name.Number (n % 2 ^ 32)
-
--- these marks, and then this form
-abbrev pub marked_by : {a : _} → List Mark → Grammar a → Grammar a
-marked_by [] g = g
-marked_by (m ∷ ms) g = Marked m (marked_by ms g)
 
 -- PARAMETERS
 
@@ -124,48 +116,6 @@ declared_more ps None = do
 unfoldable pub declared_parameters : Grammar (list_of a_param)
 declared_parameters = Loop (maybe (both_of a_scalar a_number)) (λ ps t. next_parameter ps t.kind t.bytes t.at) declared_more []
 
--- INSTRUCTIONS of a body
-
--- the [ N x of an array, with the marks of the number that a call takes at the first token of its type
-abbrev pub taking_front : List Mark → Arrays → ℕ → Grammar (both_of a_number (list_of a_number))
-taking_front marks opened at = marked_by (if is_flat opened.1 then marks else []) (array_front opened at)
-
--- the type of a call whose result is not named: where it is not void its first token takes a number, with these marks
-unfoldable pub taking_type : List Mark → Grammar a_ty
-taking_type marks = do
-  opened ← Loop a_number (λ s t. array_place t.kind t.bytes t.at) (taking_front marks) (0, [])
-  base ← One {a = a_ty} (λ t. base_type true t.kind t.bytes)
-  marked_by (if is_flat opened.1 && has_values base then marks else []) (closed_type opened base)
-
--- ~ T G ( (S ~ V),* ) ~ behind call, where the result is not named
-unfoldable pub taking_call : List Mark → Grammar an_op
-taking_call marks = do
-  _ ← ignored_run
-  t ← taking_type marks
-  callee ← global
-  _ ← punct "("
-  args ← arguments
-  _ ← punct ")"
-  _ ← ignored_run
-  _ ← endings
-  Done (op.Call t callee args)
-
--- the row that begins so, where the result is not named: where there is one a number is taken, with these marks
-abbrev pub taking_row : List Mark → Head → Grammar an_op
-taking_row marks head.Call = taking_call marks
-taking_row marks (head.Ignored i) = do
-  after_word ← run_rest i
-  _ ← ignored_from after_word
-  _ ← word "call"
-  taking_call marks
-taking_row marks head.Store = row_of false head.Store
-taking_row marks head.Fence = row_of false head.Fence
-taking_row marks head.Ret = row_of false head.Ret
-taking_row marks head.Br = row_of false head.Br
-taking_row marks head.Switch = row_of false head.Switch
-taking_row marks head.Unreachable = row_of false head.Unreachable
-taking_row marks other = marked_by marks (row_of false other)
-
 -- BLOCKS
 
 -- the name of a label, which stands before its colon
@@ -219,11 +169,11 @@ line_rest b (begin.Named n, at) =
     marked_by (opened_marks b.open_block at b.counter) (Marked (written_mark at n (opened_counter b.open_block b.counter)) (do
       _ ← punct "="
       h ← One {a = a_head} (λ t. head_of true t.kind t.bytes)
-      o ← row_of true h
+      o ← row_of true [] h
       Done (with_instruction b (counted n (opened_counter b.open_block b.counter)) (record { result = Some n; op = o }))))
 line_rest b (begin.Head h, at) =
     marked_by (opened_marks b.open_block at b.counter) (do
-      o ← taking_row (taken_mark at (opened_counter b.open_block b.counter) ∷ []) h
+      o ← row_of false (taken_mark at (opened_counter b.open_block b.counter) ∷ []) h
       Done (with_instruction b (unnamed_counter (opened_counter b.open_block b.counter) o) (unnamed (opened_counter b.open_block b.counter) o)))
 
 -- block block*, where names are counted from this number on
@@ -243,7 +193,7 @@ ended None (b ∷ bs) = Done (b ∷ bs)
 unfoldable pub define_line : Grammar a_function
 define_line = do
   _ ← ignored_run
-  t ← type_of true
+  t ← type_of true []
   n ← global
   _ ← punct "("
   ps ← parameters
@@ -268,7 +218,7 @@ unfoldable pub declare_line : Grammar a_function
 declare_line = do
   _ ← metadata_pairs
   _ ← ignored_run
-  t ← type_of true
+  t ← type_of true []
   n ← global
   _ ← punct "("
   ps ← declared_parameters

@@ -38,7 +38,7 @@ unfoldable pub type_rest : Option Ty × ℕ → Grammar a_ty
 type_rest (Some t, at) = Done t
 type_rest (None, at) = do
   first ← array_front (0, []) at
-  opened ← arrays_from first
+  opened ← arrays_from [] first
   base ← One {a = a_ty} (λ t. base_type true t.kind t.bytes)
   closed_type opened base
 
@@ -50,7 +50,7 @@ next_type (t ∷ ts) k bytes at = if is_punct (codes ",") k bytes then Some None
 -- one type more
 abbrev pub types_more : List Ty → Option (Option Ty × ℕ) → Grammar (list_of a_ty)
 types_more ts (Some b) = Then (type_rest b) (λ t. Done (ts ++ t ∷ []))
-types_more ts None = Then (type_of true) (λ t. Done (ts ++ t ∷ []))
+types_more ts None = Then (type_of true []) (λ t. Done (ts ++ t ∷ []))
 
 -- T,*
 unfoldable pub types : Grammar (list_of a_ty)
@@ -240,7 +240,7 @@ global_line structs name = do
   _ ← punct "="
   _ ← ignored_run
   _ ← One {a = no_value} (λ t. fact (is_global_word t.kind t.bytes))
-  t ← type_of true
+  t ← type_of true []
   i ← initialiser structs 64 t
   _ ← endings
   Done (record { name = name; ty = t; init = i })

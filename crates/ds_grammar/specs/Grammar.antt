@@ -1,5 +1,5 @@
 -- Grammars, which are data: the form of each part of a text is one value of this type.
-use Rattle.std.specs.Prelude.{Option, Some, None}
+use Rattle.std.specs.Prelude.{List, [], ◌∷◌, Option, Some, None}
 pub use Rattle.ds_grammar.specs.declared.fault.Mark.{Mark}
 use Rattle.ds_grammar.specs.Sort.{Lexeme, Sort, TypeOf, maybe}
 
@@ -20,6 +20,11 @@ pub data Grammar : Sort → Type 0 where
 infixl 10 ◌>>=◌
 abbrev pub ◌>>=◌ : {a b : Sort} → Grammar a → (TypeOf a → Grammar b) → Grammar b
 first >>= next = Then first next
+
+-- these marks, and then this form
+abbrev pub marked_by : {a : Sort} → List Mark → Grammar a → Grammar a
+marked_by [] g = g
+marked_by (m ∷ ms) g = Marked m (marked_by ms g)
 
 -- a part that may be missing: it is there where the next token begins it
 abbrev pub optional_test : {A B : Type 0} → (Lexeme → Option A) → Option B → Lexeme → Option A

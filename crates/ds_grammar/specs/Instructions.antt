@@ -28,7 +28,7 @@ use Rattle.ds_grammar.specs.declared.item.Stage.TheVariants as stage
 use Rattle.ds_grammar.specs.declared.item.Head.{Head}
 use Rattle.ds_grammar.specs.declared.item.Head.TheVariants as head
 use Rattle.ds_grammar.specs.Sort.{no_value, a_flag, a_number, a_mark, a_name, a_scalar, a_value, a_cond, a_rmw_op, an_operand, an_arm, an_op, an_instr, an_ending, a_behind, a_stage, a_head, both_of, list_of, maybe}
-use Rattle.ds_grammar.specs.Grammar.{Grammar, Done, One, Then, Marked, Loop, ◌>>=◌, optional}
+use Rattle.ds_grammar.specs.Grammar.{Grammar, Done, One, Then, Marked, Loop, ◌>>=◌, marked_by, optional}
 use Rattle.ds_grammar.specs.Tokens.{lookup, word_in, scalar_words, bin_op_words, token_name, range_mark, width_of, fits_type}
 use Rattle.ds_grammar.specs.Rows.{fact, is_punct, punct, is_word, word, scalar, local_name, value, result_name, run_item, run_rest, ignored_from, ignored_run, ending_item, is_metadata, ending_last, endings}
 use Rattle.ds_grammar.specs.Types.{type_of}
@@ -277,7 +277,7 @@ select_row = do
 -- alloca T, or alloca T , S V
 unfoldable pub alloca_row : Grammar an_op
 alloca_row = do
-  t ← type_of true
+  t ← type_of true []
   operands ← operand_trail true
   Done (op.Alloca t (first_operand operands))
 
@@ -310,7 +310,7 @@ store_row = do
 unfoldable pub gep_row : Grammar an_op
 gep_row = do
   _ ← ignored_run
-  t ← type_of true
+  t ← type_of true []
   _ ← punct ","
   base ← typed_value Ptr
   indices ← operand_trail false
@@ -342,10 +342,10 @@ abbrev pub arguments : Grammar (list_of an_operand)
 arguments = arguments_from []
 
 -- call ~ T G ( (S ~ V),* ) ~, where T is not void behind L =
-unfoldable pub call_row : Bool → Grammar an_op
-call_row named = do
+unfoldable pub call_row : Bool → List Mark → Grammar an_op
+call_row named marks = do
   _ ← ignored_run
-  t ← type_of (not named)
+  t ← type_of (not named) marks
   callee ← global
   _ ← punct "("
   args ← arguments
@@ -536,39 +536,55 @@ head_of named kind.Word bytes = if_none (head_word named bytes) (option_map (λ 
 head_of named other bytes = option_map (λ i. head.Ignored i) (run_item false other bytes)
 
 -- a call behind the first item of a run of ignored words
-unfoldable pub ignored_call : Bool → RunItem → Grammar an_op
-ignored_call named i = do
+unfoldable pub ignored_call : Bool → List Mark → RunItem → Grammar an_op
+ignored_call named marks i = do
   after_word ← run_rest i
   _ ← ignored_from after_word
   _ ← word "call"
-  call_row named
+  call_row named marks
 
--- the row that begins so, where L = stands before it or not
-abbrev pub row_of : Bool → Head → Grammar an_op
-row_of named (head.Binary o) = binary_row o
-row_of named (head.Cast o) = cast_row o
-row_of named head.Icmp = icmp_row
-row_of named head.Select = select_row
-row_of named head.Alloca = alloca_row
-row_of named head.Load = load_row
-row_of named head.Store = store_row
-row_of named head.Gep = gep_row
-row_of named head.Call = call_row named
-row_of named head.Phi = phi_row
-row_of named head.Rmw = rmw_row
-row_of named head.Cmpxchg = cmpxchg_row
-row_of named head.Extract = extract_row
-row_of named head.Fence = fence_row
-row_of named head.Ret = ret_row
-row_of named head.Br = br_row
-row_of named head.Switch = switch_row
-row_of named head.Unreachable = unreachable_row
-row_of named (head.Ignored i) = ignored_call named i
+-- what begins so has a result, and is no call, whose type tells whether it has one
+abbrev pub gives_result : Head → Bool
+gives_result head.Store = false
+gives_result head.Fence = false
+gives_result head.Ret = false
+gives_result head.Br = false
+gives_result head.Switch = false
+gives_result head.Unreachable = false
+gives_result head.Call = false
+gives_result (head.Ignored i) = false
+gives_result other = true
 
--- an instruction: L = where it has a result that is named, and a row
+-- the row that begins so, where L = stands before it or not; the type of a call takes a number, with these marks
+abbrev pub begun_row : Bool → List Mark → Head → Grammar an_op
+begun_row named marks (head.Binary o) = binary_row o
+begun_row named marks (head.Cast o) = cast_row o
+begun_row named marks head.Icmp = icmp_row
+begun_row named marks head.Select = select_row
+begun_row named marks head.Alloca = alloca_row
+begun_row named marks head.Load = load_row
+begun_row named marks head.Store = store_row
+begun_row named marks head.Gep = gep_row
+begun_row named marks head.Call = call_row named marks
+begun_row named marks head.Phi = phi_row
+begun_row named marks head.Rmw = rmw_row
+begun_row named marks head.Cmpxchg = cmpxchg_row
+begun_row named marks head.Extract = extract_row
+begun_row named marks head.Fence = fence_row
+begun_row named marks head.Ret = ret_row
+begun_row named marks head.Br = br_row
+begun_row named marks head.Switch = switch_row
+begun_row named marks head.Unreachable = unreachable_row
+begun_row named marks (head.Ignored i) = ignored_call named marks i
+
+-- the same, where a result that is not named takes a number with these marks
+abbrev pub row_of : Bool → List Mark → Head → Grammar an_op
+row_of named marks h = marked_by (if gives_result h then marks else []) (begun_row named marks h)
+
+-- an instruction: L = where it has a result that is named, and a row; outside a function no number is taken
 unfoldable pub instruction : Grammar an_instr
 instruction = do
   r ← result_name
   h ← One {a = a_head} (λ t. head_of (is_some r) t.kind t.bytes)
-  o ← row_of (is_some r) h
+  o ← row_of (is_some r) [] h
   Done (record { result = r; op = o })

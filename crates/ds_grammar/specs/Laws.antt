@@ -1,15 +1,15 @@
 -- The statements of the laws about grammars.
-use Rattle.std.specs.Prelude.{◌≡◌, ℕ, List, [], ◌++◌, Option, Ok, Err, ◌≤◌, length, take, drop, Some, None, ◌+◌}
+use Rattle.std.specs.Prelude.{◌≡◌, ℕ, List, [], ◌++◌, Option, Ok, Err, ◌<◌, ◌≤◌, length, take, drop, Some, None, ◌+◌}
 use Rattle.ds_grammar.specs.declared.fault.ParseFault.{ParseFault}
 use Rattle.ds_grammar.specs.Sort.{Lexeme, Sort, TypeOf}
-use Rattle.ds_grammar.specs.Grammar.{Mark, Grammar, Loop, optional}
+use Rattle.ds_grammar.specs.Grammar.{Mark, Grammar, Loop, marked_by, optional}
 use Rattle.ds_grammar.specs.Form.{Form, Front, IsFront, DeadEnd}
 use Rattle.ds_grammar.specs.Fault.{dead_fault, IsFault, IsWorst}
-use Rattle.ds_grammar.specs.Parsed.{Spells, answer, IsAnswer, SpellWhole, RefuseWhole, whole_answer, IsWholeAnswer}
+use Rattle.ds_grammar.specs.Parsed.{Spells, Refuses, answer, IsAnswer, SpellWhole, RefuseWhole, whole_answer, IsWholeAnswer}
 use Rattle.ds_grammar.specs.Lexemes.{AreInside}
 use Rattle.ds_lex.specs.declared.token.Token.{Token}
 use Rattle.ds_lex.specs.Lexed.{Lexed}
-use Rattle.ds_grammar.specs.Reading.{Place, start, Reading, first_value, optional_at, value_at, past}
+use Rattle.ds_grammar.specs.Reading.{Place, start, Reading, first_value, optional_at, value_at, past, marked_all}
 
 -- tokens have at most one value and one list of marks
 abbrev pub FormsAreUnique : Type 0
@@ -69,9 +69,19 @@ abbrev pub OptionalsAreRead : Type 0
 OptionalsAreRead = (a b : Sort) (test : Lexeme → Option (TypeOf a)) (rest : TypeOf a → Grammar b) (p : Place) →
     value_at (optional a test rest) p ≡ optional_at (λ v q. value_at (rest v) q) (first_value test p.left) p
 
+-- marks before a form are marks of the place
+abbrev pub MarksAreRead : Type 0
+MarksAreRead = (a : Sort) (ms : List Mark) (g : Grammar a) (p : Place) → value_at (marked_by ms g) p ≡ value_at g (marked_all p ms)
+
 -- behind what was read no more tokens are left than before it
 abbrev pub ReadingsTakeTokens : Type 0
 ReadingsTakeTokens = (a : Sort) (g : Grammar a) (p q : Place) (v : TypeOf a) → value_at g p ≡ Ok (v, q) → length q.left ≤ length p.left
+
+-- behind an item of a run fewer tokens are left than before it: its first token was taken
+abbrev pub ItemsTakeTokens : Type 0
+ItemsTakeTokens =
+    (b a : Sort) (test : Lexeme → Option (TypeOf b)) (v : TypeOf b) (g : Grammar a) (r : TypeOf a) (p q : Place)
+    → first_value test p.left ≡ Some v → value_at g (past p) ≡ Ok (r, q) → length q.left < length p.left
 
 -- the answer to what is read is what the tokens say
 abbrev pub AnswersAreExact : Type 0
@@ -81,6 +91,10 @@ AnswersAreExact = (a : Sort) (g : Grammar a) (ts : List Lexeme) (end : ℕ) → 
 abbrev pub SpelledIsAnswered : Type 0
 SpelledIsAnswered = (a : Sort) (g : Grammar a) (ts : List Lexeme) (end : ℕ) (v : TypeOf a) (n : ℕ) → Spells g ts v n → (left : ℕ) × (answer (value_at g (start ts end)) ≡ Ok (v, left)) × (n + left ≡ length ts)
 
+-- tokens that are refused with a fault are answered with it, so that there is one fault at most
+abbrev pub RefusedIsAnswered : Type 0
+RefusedIsAnswered = (a : Sort) (g : Grammar a) (ts : List Lexeme) (end : ℕ) (f : ParseFault) → Refuses g ts end f → answer (value_at g (start ts end)) ≡ Err f
+
 -- the answer to what is read of a whole text is what its tokens say
 abbrev pub WholeAnswersAreExact : Type 0
 WholeAnswersAreExact = (a : Sort) (g : Grammar a) (ts : List Lexeme) (end : ℕ) → IsWholeAnswer g ts end (whole_answer (value_at g (start ts end)))
@@ -88,6 +102,10 @@ WholeAnswersAreExact = (a : Sort) (g : Grammar a) (ts : List Lexeme) (end : ℕ)
 -- tokens that spell a value as a whole are answered with it
 abbrev pub WholesAreAnswered : Type 0
 WholesAreAnswered = (a : Sort) (g : Grammar a) (ts : List Lexeme) (end : ℕ) (v : TypeOf a) → SpellWhole g ts v → whole_answer (value_at g (start ts end)) ≡ Ok v
+
+-- tokens that are refused as a whole with a fault are answered with it, so that there is one fault at most
+abbrev pub RefusedWholesAreAnswered : Type 0
+RefusedWholesAreAnswered = (a : Sort) (g : Grammar a) (ts : List Lexeme) (end : ℕ) (f : ParseFault) → RefuseWhole g ts end f → whole_answer (value_at g (start ts end)) ≡ Err f
 
 -- the tokens of a text lie in it, from each place on as many as one likes
 abbrev pub TokensLieInside : Type 0

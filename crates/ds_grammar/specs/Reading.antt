@@ -34,6 +34,11 @@ worse worst m = if m.within then worst else lesser worst m.breach
 abbrev pub marked : Place → Mark → Place
 marked p m = record p { worst = worse p.worst m }
 
+-- the place with these marks more
+abbrev pub marked_all : Place → List Mark → Place
+marked_all p [] = p
+marked_all p (m ∷ ms) = marked_all (marked p m) ms
+
 -- the fault of the least breach, or else this one
 abbrev pub refusal : Option Breach → ParseFault → ParseFault
 refusal None at_dead_end = at_dead_end

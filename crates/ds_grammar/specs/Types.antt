@@ -1,15 +1,16 @@
 -- The form of a type.
-use Rattle.std.specs.Prelude.{ℕ, Bool, true, false, not, ◌||◌, ◌^◌, ◌%◌, nat_lt, nat_le, if◌then◌else◌, List, [], ◌∷◌, length, Option, Some, None, option_map, codes}
+use Rattle.std.specs.Prelude.{ℕ, Bool, true, false, not, ◌&&◌, ◌||◌, ◌^◌, ◌%◌, nat_lt, nat_le, if◌then◌else◌, List, [], ◌∷◌, length, Option, Some, None, option_map, codes}
 use Rattle.std.specs.Str.{bytes_eq}
 use Rattle.ds_lex.specs.declared.token.TokenKind.{TokenKind}
 use Rattle.ds_lex.specs.declared.token.TokenKind.TheVariants as kind
 use Rattle.ds_lex.specs.Number.{number_of}
 use Rattle.ds_ast.specs.declared.ty.Ty.{Ty}
 use Rattle.ds_ast.specs.declared.ty.Ty.TheVariants as ty
+use Rattle.ds_ast.specs.Bounds.{has_values}
 use Rattle.ds_grammar.specs.declared.fault.Bound.TheVariants.{Depth}
 use Rattle.ds_grammar.specs.declared.fault.Mark.{Mark}
 use Rattle.ds_grammar.specs.Sort.{no_value, a_number, a_mark, a_ty, both_of, list_of}
-use Rattle.ds_grammar.specs.Grammar.{Grammar, Done, One, Marked, Loop, ◌>>=◌}
+use Rattle.ds_grammar.specs.Grammar.{Grammar, Done, One, Marked, Loop, ◌>>=◌, marked_by}
 use Rattle.ds_grammar.specs.Tokens.{lookup, scalar_words, token_name, range_mark}
 use Rattle.ds_grammar.specs.Rows.{fact, is_punct, word}
 
@@ -47,12 +48,23 @@ array_front opened at = Marked (depth_mark (type_place opened at) opened.1) (do
 abbrev pub array_place : TokenKind → List ℕ → ℕ → Option ℕ
 array_place k bytes at = if is_punct (codes "[") k bytes then Some at else None
 
--- any number of [ N x, inside these arrays
-unfoldable pub arrays_from : Arrays → Grammar (both_of a_number (list_of a_number))
-arrays_from opened = Loop a_number (λ s t. array_place t.kind t.bytes t.at) array_front opened
+-- no array is open
+abbrev pub is_flat : List ℕ → Bool
+is_flat [] = true
+is_flat (n ∷ ns) = false
 
-abbrev pub arrays : Grammar (both_of a_number (list_of a_number))
-arrays = arrays_from (0, [])
+-- the marks of a number that is taken, where it is
+abbrev pub taken_by : List Mark → Bool → List Mark
+taken_by [] taken = []
+taken_by (m ∷ ms) taken = if taken then m ∷ ms else []
+
+-- what stands behind the [ of an array; at the first token of its type a number is taken, with these marks
+abbrev pub marked_front : List Mark → Arrays → ℕ → Grammar (both_of a_number (list_of a_number))
+marked_front marks opened at = marked_by (taken_by marks (is_flat opened.1)) (array_front opened at)
+
+-- any number of [ N x, inside these arrays
+unfoldable pub arrays_from : List Mark → Arrays → Grammar (both_of a_number (list_of a_number))
+arrays_from marks opened = Loop a_number (λ s t. array_place t.kind t.bytes t.at) (marked_front marks) opened
 
 -- the type that a word is, where void may or may not stand
 abbrev pub word_type : Bool → List ℕ → Option Ty
@@ -98,14 +110,10 @@ closed_type opened base = do
   closing ← array_ends (nat_lt 32 (length opened.1)) (opened.1, base)
   all_arrays_closed closing
 
--- no array is open
-abbrev pub is_flat : List ℕ → Bool
-is_flat [] = true
-is_flat (n ∷ ns) = false
-
--- void, a type of a register, [ N x T ], or the name of a struct; void alone may be forbidden
-unfoldable pub type_of : Bool → Grammar a_ty
-type_of may_be_void = do
-  opened ← arrays
+-- void, a type of a register, [ N x T ], or the name of a struct; void alone may be forbidden. Where it is not void its
+-- first token takes a number, with these marks: those of a call's result that has no name. Else there are none.
+unfoldable pub type_of : Bool → List Mark → Grammar a_ty
+type_of may_be_void marks = do
+  opened ← arrays_from marks (0, [])
   base ← One {a = a_ty} (λ t. base_type (may_be_void || not (is_flat opened.1)) t.kind t.bytes)
-  closed_type opened base
+  marked_by (taken_by marks (is_flat opened.1 && has_values base)) (closed_type opened base)

@@ -3,7 +3,7 @@
 //! A caller calls the function and uses what it ensures. The laws speak of every grammar.
 #![tactic(auto)]
 
-ghost use Rattle.ds_grammar.specs.Laws.{FormsAreUnique, MarksAreUnique, PrefixesAreFronts, DeadEndsExist, DeadEndsAreUnique, ReadingIsExact, FormsAreRead, RunsTakeItems, RunsEnd, RunsStop, OptionalsAreRead, ReadingsTakeTokens, AnswersAreExact, SpelledIsAnswered, TokensLieInside, WholeAnswersAreExact, WholesAreAnswered, WholesAreNotRefused};
+ghost use Rattle.ds_grammar.specs.Laws.{FormsAreUnique, MarksAreUnique, PrefixesAreFronts, DeadEndsExist, DeadEndsAreUnique, ReadingIsExact, FormsAreRead, RunsTakeItems, RunsEnd, RunsStop, OptionalsAreRead, MarksAreRead, ReadingsTakeTokens, ItemsTakeTokens, AnswersAreExact, SpelledIsAnswered, RefusedIsAnswered, TokensLieInside, WholeAnswersAreExact, WholesAreAnswered, WholesAreNotRefused, RefusedWholesAreAnswered};
 
 mod fault;
 mod item;
@@ -58,15 +58,26 @@ pub fn optionals_are_read()
     ensures { OptionalsAreRead }
 {}
 
+/// Marks before a form are marks of the place.
+pub fn marks_are_read()
+    ensures { MarksAreRead }
+{}
+
 /// Behind what was read no more tokens are left than before it.
 pub fn readings_take_tokens()
     ensures { ReadingsTakeTokens }
+{}
+
+/// Behind an item of a run fewer tokens are left than before it.
+pub fn items_take_tokens()
+    ensures { ItemsTakeTokens }
 {}
 
 /// The answer to what is read is what the tokens say, where a breach is a fault.
 pub fn answers_are_exact()
     ensures exact { AnswersAreExact }
     ensures spelled { SpelledIsAnswered }
+    ensures fault { RefusedIsAnswered }
 {}
 
 /// The answer to what is read of a whole text is what its tokens say, where a breach is a fault and so is a token that is left.
@@ -74,6 +85,7 @@ pub fn whole_answers_are_exact()
     ensures exact { WholeAnswersAreExact }
     ensures spelled { WholesAreAnswered }
     ensures refused { WholesAreNotRefused }
+    ensures fault { RefusedWholesAreAnswered }
 {}
 
 /// The tokens of a text lie in it.

@@ -5,7 +5,7 @@ ghost use Rattle.ds_grammar.specs.Functions as functions;
 
 use crate::lines::{attributes_line, metadata_line, target_line, text_line};
 use crate::parts::Parts;
-use ds_grammar::{Entity, ParseFault, readings_take_tokens, runs_go_on};
+use ds_grammar::{Entity, ParseFault, items_take_tokens, runs_go_on};
 use ds_lex::TokenKind;
 use ds_parse_function::{declare_line, define_line};
 use ds_parse_global::{global_line, struct_line};
@@ -111,7 +111,7 @@ pub fn module_parts<'a>(alloc: Global, rest: Rest<'a>) -> Result<(Parts, Rest<'a
     ensures { Gives result (value_at functions.module_text rest.entry) }
 {
     runs_go_on();
-    readings_take_tokens();
+    items_take_tokens();
     let mut rest = rest;
     let mut parts = Parts::new(alloc);
     while let Some(entity) = next_entity(alloc, &rest)? {

@@ -1,5 +1,5 @@
 //! The module of a text.
-ghost use Rattle.std.specs.Prelude.{◌≡◌, ◌≤◌, ◌<◌, ◌⊎◌, length, IfOk, IfErr, MatchResult};
+ghost use Rattle.std.specs.Prelude.{◌≡◌, ◌≤◌, ◌<◌, ◌⊎◌, length, Err, IfOk, IfErr, MatchResult};
 ghost use Rattle.ds_ast.specs.declared.module.Module.{Module};
 ghost use Rattle.ds_lex.specs.Lexed.{Lexed};
 ghost use Rattle.ds_grammar.specs.Lexemes.{lexemes_from};
@@ -11,7 +11,7 @@ ghost use Rattle.ds_parse.specs.Faults.{HasParseFault, parse_fault};
 use crate::entities::module_parts;
 use ds_ast::Module;
 use ds_grammar::{ParseFault, tokens_lie_inside, whole_answers_are_exact};
-use ds_lex::{LexFault, Tokens, lex, tokens_are_unique};
+use ds_lex::{LexFault, Tokens, lex, tokens_are_unique, tokens_or_fault};
 use ds_reader::Rest;
 use std::alloc::Global;
 
@@ -27,8 +27,11 @@ pub fn parse(alloc: Global, text: &[u8]) -> Result<Module, ParseFault>
     // A text spells one module at most, and each text that spells one is read, if there is memory.
     ensures only { (m : Module) → Text text.now m → MatchResult result (λ found. found ≡ m) (λ f. f ≡ ParseFault.Memory) }
     ensures refused { IfErr result (λ f. (f ≡ ParseFault.Memory) ⊎ HasParseFault text.now f) }
+    // A text has one fault at most, and it is told, if there is memory.
+    ensures only_fault { (fault : ParseFault) → HasParseFault text.now fault → (result ≡ Err fault) ⊎ (result ≡ Err ParseFault.Memory) }
 {
     tokens_are_unique();
+    tokens_or_fault();
     match lex(alloc, text) {
         Ok(tokens) => module_of(alloc, text, &tokens),
         Err(fault) => Err(lexical(fault)),
@@ -55,6 +58,8 @@ fn module_of(alloc: Global, text: &[u8], tokens: &Tokens) -> Result<Module, Pars
     ensures spelled { IfOk result (λ m. SpellWhole module_text (lexemes_from text.now tokens.now 0) m) }
     ensures only { (m : Module) → SpellWhole module_text (lexemes_from text.now tokens.now 0) m → MatchResult result (λ found. found ≡ m) (λ f. f ≡ ParseFault.Memory) }
     ensures refused { IfErr result (λ f. (f ≡ ParseFault.Memory) ⊎ RefuseWhole module_text (lexemes_from text.now tokens.now 0) (length text.now) f) }
+    ensures only_fault { (f : ParseFault) → RefuseWhole module_text (lexemes_from text.now tokens.now 0) (length text.now) f →
+        (result ≡ Err f) ⊎ (result ≡ Err ParseFault.Memory) }
 {
     tokens_lie_inside();
     whole_answers_are_exact();

@@ -1,4 +1,1 @@
-pub mod Taken
 pub mod Optional
-pub mod Marks
-pub mod Inside

@@ -1,21 +1,14 @@
 -- Parts of the forms of functions that are read one behind the other, each by a name. The forms themselves are ds_grammar's Functions.
-use Rattle.std.specs.Prelude.{ℕ, not, true, List, [], ◌∷◌, Some, is_some}
+use Rattle.std.specs.Prelude.{ℕ, not, true, false, List, [], ◌∷◌, Some, is_some}
 use Rattle.ds_ast.specs.declared.name.Name.{Name}
 use Rattle.ds_ast.specs.declared.module.Param.{Param}
 use Rattle.ds_grammar.specs.declared.fault.Mark.{Mark}
 use Rattle.ds_grammar.specs.declared.item.Head.{Head}
 use Rattle.ds_grammar.specs.Sort.{Body, Params, a_number, a_name, a_scalar, a_param, a_begin, a_head, a_body, some_params, both_of, list_of, maybe}
 use Rattle.ds_grammar.specs.Grammar.{Grammar, Done, One, Loop, ◌>>=◌, optional}
-use Rattle.ds_grammar.specs.Reading.{Place, marked}
 use Rattle.ds_grammar.specs.Rows.{punct, local_name}
 use Rattle.ds_grammar.specs.Instructions.{head_of, row_of}
-use Rattle.ds_grammar.specs.Types.{Arrays, array_place}
-use Rattle.ds_grammar.specs.Functions.{counted, next_parameter, placed_name, parameters_more, declared_more, taking_front, taking_row, line_begin, line_rest, with_instruction, unnamed, unnamed_counter}
-
--- the place with these marks more
-abbrev pub marked_all : Place → List Mark → Place
-marked_all p [] = p
-marked_all p (m ∷ ms) = marked_all (marked p m) ms
+use Rattle.ds_grammar.specs.Functions.{counted, next_parameter, placed_name, parameters_more, declared_more, line_begin, line_rest, with_instruction, unnamed, unnamed_counter}
 
 -- the name of a parameter of a declaration, which need not be written
 unfoldable pub optional_name : Grammar (maybe a_name)
@@ -33,22 +26,18 @@ declared_from ps = Loop (maybe (both_of a_scalar a_number)) (λ ps t. next_param
 unfoldable pub parameters_from : Params → Grammar some_params
 parameters_from ps = Loop (maybe (both_of a_scalar a_number)) (λ ps t. next_parameter ps.params t.kind t.bytes t.at) parameters_more ps
 
--- more arrays of a type inside these, where the first token of the type takes a number with these marks
-unfoldable pub taking_fronts : List Mark → Arrays → Grammar (both_of a_number (list_of a_number))
-taking_fronts marks opened = Loop a_number (λ s t. array_place t.kind t.bytes t.at) (taking_front marks) opened
-
 -- = and a row behind the name of a result, where names are counted from this number on
 unfoldable pub named_rest : Body → Name → ℕ → Grammar a_body
 named_rest b n counter = do
   _ ← punct "="
   h ← One {a = a_head} (λ t. head_of true t.kind t.bytes)
-  o ← row_of true h
+  o ← row_of true [] h
   Done (with_instruction b (counted n counter) (record { result = Some n; op = o }))
 
 -- the rest of a row whose result is not named, which takes this number with this mark where there is one
 unfoldable pub unnamed_rest : Body → Head → Mark → ℕ → Grammar a_body
 unnamed_rest b h mark counter = do
-  o ← taking_row (mark ∷ []) h
+  o ← row_of false (mark ∷ []) h
   Done (with_instruction b (unnamed_counter counter o) (unnamed counter o))
 
 -- more lines of a body behind these

@@ -2,14 +2,14 @@
 ghost use Rattle.std.specs.Prelude.{◌≡◌, [], None, not, is_some, IfOk};
 ghost use Rattle.ds_grammar.specs.declared.item.Begin.TheVariants as begin;
 ghost use Rattle.ds_grammar.specs.Reading.{Gives, first_value, value_at};
+ghost use Rattle.ds_grammar.specs.Reading as reading;
 ghost use Rattle.ds_grammar.specs.Functions as functions;
 ghost use Rattle.ds_parse_function.specs.Runs as runs;
 
-use crate::lines::taking_row;
 use crate::names::{counted, numbered, risen, taken_mark, written_mark};
 use crate::ops::{has_result, is_terminator};
 use ds_ast::{Block, Instr, List, Name, Op};
-use ds_grammar::{Begin, Head, Mark, ParseFault, readings_take_tokens, runs_go_on};
+use ds_grammar::{Begin, Head, Mark, ParseFault, items_take_tokens, marks_are_read, runs_go_on};
 use ds_lex::TokenKind;
 use ds_parse_instr::{head_of, row_of};
 use ds_reader::{Rest, name_of, punct, token_name};
@@ -75,7 +75,7 @@ impl OpenBody {
 
     /// The place with the mark that a new block takes, where none is open.
     fn opened<'a>(&self, at: u32, rest: Rest<'a>) -> Rest<'a>
-        ensures { result ≡ runs.marked_all rest.entry (functions.opened_marks self.now.open_block at self.now.counter) }
+        ensures { result ≡ reading.marked_all rest.entry (functions.opened_marks self.now.open_block at self.now.counter) }
     {
         match &self.open_block {
             Some(_) => rest,
@@ -245,7 +245,7 @@ fn named_rest<'a>(
         None => None,
     };
     let (head, rest) = rest.take(read)?;
-    let (op, rest) = row_of(alloc, true, head, rest)?;
+    let (op, rest) = row_of(alloc, true, None, head, rest)?;
     let counter = counted(&name, counter);
     let instr = Instr {
         result: Some(name),
@@ -267,14 +267,14 @@ fn unnamed_rest<'a>(
 ) -> Result<(OpenBody, Rest<'a>), ParseFault>
     ensures { Gives result (value_at (runs.unnamed_rest body head mark counter) rest.entry) }
 {
-    let (op, rest) = taking_row(alloc, mark, head, rest)?;
+    let (op, rest) = row_of(alloc, false, Some(mark), head, rest)?;
     let behind = unnamed_counter(counter, &op);
     let body = body.with_instruction(alloc, behind, unnamed(counter, op))?;
     Ok((body, rest))
 }
 
 /// A line that begins with the name of a result.
-#[tactic(auto, unfolding(crate::specs::Runs::named_rest), using(crate::proofs::Marks::marked_through))]
+#[tactic(auto, unfolding(crate::specs::Runs::named_rest))]
 fn named_line<'a>(
     alloc: Global,
     body: OpenBody,
@@ -284,6 +284,7 @@ fn named_line<'a>(
 ) -> Result<(OpenBody, Rest<'a>), ParseFault>
     ensures { Gives result (value_at (functions.line_rest body (begin.Named name, at)) rest.entry) }
 {
+    marks_are_read();
     let counter = body.opened_counter();
     let rest = body.opened(at, rest);
     let rest = rest.marked(written_mark(at, &name, counter));
@@ -291,7 +292,7 @@ fn named_line<'a>(
 }
 
 /// A line that begins with an instruction whose result is not named.
-#[tactic(auto, unfolding(crate::specs::Runs::unnamed_rest), using(crate::proofs::Marks::marked_through))]
+#[tactic(auto, unfolding(crate::specs::Runs::unnamed_rest))]
 fn unnamed_line<'a>(
     alloc: Global,
     body: OpenBody,
@@ -301,6 +302,7 @@ fn unnamed_line<'a>(
 ) -> Result<(OpenBody, Rest<'a>), ParseFault>
     ensures { Gives result (value_at (functions.line_rest body (begin.Head head, at)) rest.entry) }
 {
+    marks_are_read();
     let counter = body.opened_counter();
     let rest = body.opened(at, rest);
     unnamed_rest(alloc, body, head, taken_mark(at, counter), counter, rest)
@@ -336,7 +338,7 @@ pub fn body_from<'a>(
     ensures { Gives result (value_at (functions.body_from counter) rest.entry) }
 {
     runs_go_on();
-    readings_take_tokens();
+    items_take_tokens();
     let mut rest = rest;
     let mut body = OpenBody::new(alloc, counter);
     while let Some(line) = body.next_line(alloc, &rest)? {

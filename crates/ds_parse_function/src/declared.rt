@@ -9,7 +9,9 @@ ghost use Rattle.ds_parse_function.specs.Runs as runs;
 
 use crate::names::numbered;
 use ds_ast::{Function, List, Name, Param, Scalar};
-use ds_grammar::{ParseFault, optionals_are_read, readings_take_tokens, runs_go_on};
+use ds_grammar::{
+    ParseFault, items_take_tokens, optionals_are_read, readings_take_tokens, runs_go_on,
+};
 use ds_lex::TokenKind;
 use ds_reader::{
     Rest, global, ignored_run, is_punct, local_name, punct, scalar, scalar_of, type_of,
@@ -105,7 +107,7 @@ fn declared_parameters<'a>(
     ensures { Gives result (value_at functions.declared_parameters rest.entry) }
 {
     runs_go_on();
-    readings_take_tokens();
+    items_take_tokens();
     let mut rest = rest;
     let mut params = List::new(alloc);
     while let Some(item) = next_parameter(&params, &rest) {
@@ -155,7 +157,7 @@ pub fn declare_line<'a>(alloc: Global, rest: Rest<'a>) -> Result<(Function, Rest
 {
     let rest = metadata_pairs(rest)?;
     let (_, rest) = ignored_run(alloc, rest)?;
-    let (result_type, rest) = type_of(alloc, true, rest)?;
+    let (result_type, rest) = type_of(alloc, true, None, rest)?;
     let (name, rest) = global(alloc, rest)?;
     let rest = punct(b"(", rest)?;
     let (params, rest) = declared_parameters(alloc, rest)?;

@@ -15,7 +15,7 @@ pub fn define_line<'a>(alloc: Global, rest: Rest<'a>) -> Result<(Function, Rest<
     ensures { Gives result (value_at functions.define_line rest.entry) }
 {
     let (_, rest) = ignored_run(alloc, rest)?;
-    let (ty, rest) = type_of(alloc, true, rest)?;
+    let (ty, rest) = type_of(alloc, true, None, rest)?;
     let (name, rest) = global(alloc, rest)?;
     let rest = punct(b"(", rest)?;
     let (params, rest) = defined_parameters(alloc, rest)?;

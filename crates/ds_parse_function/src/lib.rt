@@ -4,13 +4,9 @@
 mod body;
 mod declared;
 mod functions;
-mod lines;
 mod names;
 mod ops;
 mod parameters;
 
 pub use declared::declare_line;
 pub use functions::define_line;
-
-#[cfg(test)]
-mod tests;

@@ -2,19 +2,8 @@
 ghost use Rattle.std.specs.Prelude.{◌≡◌};
 ghost use Rattle.ds_ast.specs.Bounds as bounds;
 
-use ds_ast::{Op, Ty};
-
-/// Whether there are values of a type: it is not `void`.
-pub fn has_values(ty: &Ty) -> bool
-    ensures { result ≡ bounds.has_values ty.now }
-{
-    match ty {
-        Ty::Void => false,
-        Ty::One(_) => true,
-        Ty::Array { .. } => true,
-        Ty::Struct(_) => true,
-    }
-}
+use ds_ast::Op;
+use ds_reader::has_values;
 
 /// Whether an operation has a result.
 pub fn has_result(op: &Op) -> bool

@@ -2,13 +2,16 @@
 ghost use Rattle.std.specs.Prelude.{◌≡◌, [], IfOk};
 ghost use Rattle.std.specs.Option.{option_to_list};
 ghost use Rattle.ds_grammar.specs.Reading.{Gives, first_value, value_at};
+ghost use Rattle.ds_grammar.specs.Reading as reading;
 ghost use Rattle.ds_grammar.specs.Functions as functions;
 ghost use Rattle.ds_parse_function.specs.Runs as runs;
 
 use crate::declared::next_parameter;
 use crate::names::{counted, numbered, risen, taken_mark, written_mark};
 use ds_ast::{List, Name, Param, Scalar};
-use ds_grammar::{Mark, ParseFault, optionals_are_read, readings_take_tokens, runs_go_on};
+use ds_grammar::{
+    Mark, ParseFault, items_take_tokens, marks_are_read, optionals_are_read, runs_go_on,
+};
 use ds_lex::TokenKind;
 use ds_reader::{Rest, ignored_run, local_name, punct, scalar_of};
 use std::alloc::{AllocError, Global};
@@ -67,12 +70,9 @@ impl CountedParameters {
 
     /// The place with the mark that the last parameter takes where it ends.
     fn settled<'a>(&self, rest: Rest<'a>) -> Rest<'a>
-        ensures { result ≡ runs.marked_all rest.entry self.now.pending }
+        ensures { result ≡ reading.marked_all rest.entry self.now.pending }
     {
-        match self.pending {
-            Some(mark) => rest.marked(mark),
-            None => rest,
-        }
+        rest.marked_by(self.pending)
     }
 
     /// These parameters with one more, which begins at its type.
@@ -116,7 +116,7 @@ impl CountedParameters {
 
     /// The place with the mark of a name, where it is written.
     fn named<'a>(&self, name: &Option<(Name, u32)>, rest: Rest<'a>) -> Rest<'a>
-        ensures { result ≡ runs.marked_all rest.entry (functions.name_marks self.now name.now) }
+        ensures { result ≡ reading.marked_all rest.entry (functions.name_marks self.now name.now) }
     {
         match name {
             Some((name, at)) => rest.marked(written_mark(*at, name, self.counter)),
@@ -166,7 +166,7 @@ fn optional_placed<'a>(
 }
 
 /// The rest of a parameter, behind its type.
-#[tactic(auto, unfolding(ds_grammar::specs::Functions::parameter_rest, crate::specs::Runs::optional_placed), using(crate::proofs::Marks::marked_through))]
+#[tactic(auto, unfolding(ds_grammar::specs::Functions::parameter_rest, crate::specs::Runs::optional_placed))]
 fn parameter_rest<'a>(
     alloc: Global,
     params: CountedParameters,
@@ -175,6 +175,7 @@ fn parameter_rest<'a>(
 ) -> Result<(CountedParameters, Rest<'a>), ParseFault>
     ensures { Gives result (value_at (functions.parameter_rest params ty) rest.entry) }
 {
+    marks_are_read();
     let (_, rest) = ignored_run(alloc, rest)?;
     let (name, rest) = optional_placed(alloc, rest)?;
     let rest = params.named(&name, rest);
@@ -198,7 +199,6 @@ fn placed_scalar<'a>(rest: Rest<'a>) -> Result<((Scalar, u32), Rest<'a>), ParseF
 }
 
 /// One parameter more, of which the type or the comma before it was read.
-#[tactic(auto, using(crate::proofs::Marks::marked_through))]
 fn parameters_more<'a>(
     alloc: Global,
     params: CountedParameters,
@@ -207,6 +207,7 @@ fn parameters_more<'a>(
 ) -> Result<(CountedParameters, Rest<'a>), ParseFault>
     ensures { Gives result (value_at (functions.parameters_more params ty) rest.entry) }
 {
+    marks_are_read();
     match ty {
         Some(ty) => parameter_rest(alloc, params, ty, rest),
         None => {
@@ -225,7 +226,7 @@ fn parameters_from<'a>(
     ensures { Gives result (value_at (runs.parameters_from (record { params = []; counter = 0; pending = [] })) rest.entry) }
 {
     runs_go_on();
-    readings_take_tokens();
+    items_take_tokens();
     let mut rest = rest;
     let mut params = CountedParameters::new(alloc);
     while let Some(item) = params.next(&rest) {
@@ -237,13 +238,14 @@ fn parameters_from<'a>(
 }
 
 /// CountedParameters, up to the bracket that closes them.
-#[tactic(auto, unfolding(ds_grammar::specs::Functions::parameters, crate::specs::Runs::parameters_from), using(crate::proofs::Marks::marked_through))]
+#[tactic(auto, unfolding(ds_grammar::specs::Functions::parameters, crate::specs::Runs::parameters_from))]
 pub fn defined_parameters<'a>(
     alloc: Global,
     rest: Rest<'a>,
 ) -> Result<(CountedParameters, Rest<'a>), ParseFault>
     ensures { Gives result (value_at functions.parameters rest.entry) }
 {
+    marks_are_read();
     let (params, rest) = parameters_from(alloc, rest)?;
     let rest = punct(b")", rest)?;
     let rest = params.settled(rest);

@@ -1,7 +1,5 @@
-pub mod Taken
 pub mod Runs
 pub mod Again
 pub mod Fields
 pub mod Depth
 pub mod Keyed
-pub mod Inside

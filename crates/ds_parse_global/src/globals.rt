@@ -52,7 +52,7 @@ pub fn global_line<'a>(
     let rest = punct(b"=", rest)?;
     let (_, rest) = ignored_run(alloc, rest)?;
     let rest = global_word(rest)?;
-    let (ty, rest) = type_of(alloc, true, rest)?;
+    let (ty, rest) = type_of(alloc, true, None, rest)?;
     let (init, rest) = initialiser(alloc, structs, MOST_BRACKETS, &ty, rest)?;
     let (_, rest) = endings(rest)?;
     Ok((GlobalDef { name, ty, init }, rest))

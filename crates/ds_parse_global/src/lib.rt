@@ -12,6 +12,3 @@ mod structs;
 pub use globals::global_line;
 pub use lists::struct_line;
 pub use structs::Structs;
-
-#[cfg(test)]
-mod tests;

@@ -4,7 +4,7 @@ ghost use Rattle.ds_grammar.specs.Reading.{Gives, first_value, value_at};
 ghost use Rattle.ds_grammar.specs.Globals as globals;
 
 use ds_ast::{List, Name, StructDef, Ty};
-use ds_grammar::{ParseFault, readings_take_tokens, runs_go_on};
+use ds_grammar::{ParseFault, items_take_tokens, runs_go_on};
 use ds_lex::TokenKind;
 use ds_reader::{
     Arrays, Rest, array_front, arrays_from, base_type, closed_type, is_punct, punct, type_of, word,
@@ -36,7 +36,7 @@ fn array_rest<'a>(alloc: Global, at: u32, rest: Rest<'a>) -> Result<(Ty, Rest<'a
     ensures { Gives result (value_at (globals.type_rest (None, at)) rest.entry) }
 {
     let (first, rest) = array_front(Arrays::new(alloc), at, rest)?;
-    let (opened, rest) = arrays_from(first, rest)?;
+    let (opened, rest) = arrays_from(None, first, rest)?;
     let read = match rest.peek() {
         Some((kind, bytes, _)) => base_type(alloc, true, kind, bytes)?,
         None => None,
@@ -116,7 +116,7 @@ fn types_more<'a>(
             Ok((types, rest))
         }
         None => {
-            let (ty, rest) = type_of(alloc, true, rest)?;
+            let (ty, rest) = type_of(alloc, true, None, rest)?;
             types.push(ty)?;
             Ok((types, rest))
         }
@@ -129,7 +129,7 @@ fn types<'a>(alloc: Global, rest: Rest<'a>) -> Result<(List<Ty>, Rest<'a>), Pars
     ensures { Gives result (value_at globals.types rest.entry) }
 {
     runs_go_on();
-    readings_take_tokens();
+    items_take_tokens();
     let mut rest = rest;
     let mut types = List::new(alloc);
     while let Some(item) = next_type(alloc, &types, &rest)? {

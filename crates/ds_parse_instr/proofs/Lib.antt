@@ -1,4 +1,3 @@
 pub mod Parsing
-pub mod Taken
 pub mod Cases
 pub mod Never

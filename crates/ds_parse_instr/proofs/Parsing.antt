@@ -9,8 +9,8 @@ use Rattle.ds_grammar.specs.declared.fault.ParseFault.TheVariants as fault
 use Rattle.ds_grammar.specs.Sort.{Lexeme, Sort, TypeOf}
 use Rattle.ds_grammar.specs.Grammar.{Grammar}
 use Rattle.ds_grammar.specs.Reading.{Place, start, value_at}
-use Rattle.ds_grammar.specs.Parsed.{Spells, answer, IsAnswer}
-use Rattle.ds_grammar.specs.Laws.{AnswersAreExact, SpelledIsAnswered}
+use Rattle.ds_grammar.specs.Parsed.{Spells, Refuses, answer, IsAnswer}
+use Rattle.ds_grammar.specs.Laws.{AnswersAreExact, SpelledIsAnswered, RefusedIsAnswered}
 
 -- how many tokens stand from a place on before the end
 pub length_from : (text : List ℕ) (ts : List Token) (at : ℕ) → at < length ts → length (lexemes_from text ts at) ≡ length ts - 1 - at
@@ -27,6 +27,19 @@ moved len all at left n m e lt count total = omega arith
 pub passed_on : {T E : Type 0} (r : Result T E) (P : T → Type 0) (Q R : E → Type 0) → IsErr r × IsErrAnd r R → ((x : E) → R x → Q x) → MatchResult r P Q
 passed_on (Ok x) P Q R h f = absurd h.1
 passed_on (Err x) P Q R h f = f x h.1
+
+-- this fault is told, or there was not enough memory
+abbrev IsTold : {A : Type 0} → Result A ParseFault → ParseFault → Type 0
+IsTold r f = (r ≡ Err f) ⊎ (r ≡ Err fault.Memory)
+
+err_told : {A : Type 0} (f h : ParseFault) → (f ≡ h) ⊎ (f ≡ fault.Memory) → IsTold {A = A} (Err f) h
+err_told f h (inl e) = inl (ap Err e)
+err_told f h (inr e) = inr (ap Err e)
+
+-- a fault that is passed on is told
+pub told_on : {A : Type 0} (r : Result A ParseFault) (f h : ParseFault) → IsErr r × IsErrAnd r (λ x. x ≡ f) → (f ≡ h) ⊎ (f ≡ fault.Memory) → IsTold r h
+told_on (Ok x) f h is t = absurd is.1
+told_on {A = A} (Err x) f h is t = subst (λ y. IsTold {A = A} (Err y) h) (sym is.1) (err_told f h t)
 
 module _ {a : Sort} (g : Grammar a) (ts : List Lexeme) (end : ℕ) where
   pub answered : AnswersAreExact → (v : TypeOf a) (left : ℕ) → answer (value_at g (start ts end)) ≡ Ok (v, left) → (n : ℕ) × Spells g ts v n × (n + left ≡ length ts)
@@ -45,3 +58,16 @@ module _ {a : Sort} (g : Grammar a) (ts : List Lexeme) (end : ℕ) where
   pub only_memory : SpelledIsAnswered → (p : Place) → p ≡ start ts end → (f : ParseFault) → (f ≡ fault.Memory) ⊎ (answer (value_at g p) ≡ Err f) → (w : TypeOf a) (n : ℕ) → Spells g ts w n → f ≡ fault.Memory
   only_memory spelled p s f (inl m) w n h = m
   only_memory spelled p s f (inr e) w n h = absurd (only_err spelled f w n (subst (λ q. answer (value_at g q) ≡ Err f) s e) h)
+
+  -- tokens that are refused have no value
+  pub no_value : RefusedIsAnswered → (v : TypeOf a) (left : ℕ) → answer (value_at g (start ts end)) ≡ Ok (v, left) → (f : ParseFault) → Refuses g ts end f → ⊥
+  no_value refused v left e f h = cc (sym e ∙ refused a g ts end f h)
+
+  err_same : (f h : ParseFault) → ◌≡◌ {A = Result (TypeOf a × ℕ) ParseFault} (Err f) (Err h) → f ≡ h
+  err_same f h e = cc (e)
+
+  -- where the tokens are refused, the fault is theirs or want of memory
+  pub only_theirs : RefusedIsAnswered → (p : Place) → p ≡ start ts end → (f : ParseFault) → (f ≡ fault.Memory) ⊎ (answer (value_at g p) ≡ Err f)
+      → (h : ParseFault) → Refuses g ts end h → (f ≡ h) ⊎ (f ≡ fault.Memory)
+  only_theirs refused p s f (inl m) h r = inr m
+  only_theirs refused p s f (inr e) h r = inl (err_same f h (sym (subst (λ q. answer (value_at g q) ≡ Err f) s e) ∙ refused a g ts end h r))

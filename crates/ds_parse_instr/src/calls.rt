@@ -1,11 +1,12 @@
 //! Calls.
 ghost use Rattle.std.specs.Prelude.{◌≡◌};
+ghost use Rattle.std.specs.Option.{option_to_list};
 ghost use Rattle.ds_grammar.specs.Reading.{Gives, first_value, value_at};
 ghost use Rattle.ds_grammar.specs.Instructions as instructions;
 
 use crate::trails::is_empty;
 use ds_ast::{Op, Operand, Ops, Scalar};
-use ds_grammar::{ParseFault, readings_take_tokens, runs_go_on};
+use ds_grammar::{Mark, ParseFault, items_take_tokens, runs_go_on};
 use ds_lex::TokenKind;
 use ds_reader::{
     Rest, endings, global, ignored_run, is_punct, punct, scalar, scalar_of, type_of, value,
@@ -76,11 +77,11 @@ fn argument_rest<'a>(
 
 /// Arguments with commas between them, maybe none.
 #[tactic(auto, unfolding(ds_grammar::specs::Instructions::arguments_from))]
-pub fn arguments<'a>(alloc: Global, rest: Rest<'a>) -> Result<(Ops<Operand>, Rest<'a>), ParseFault>
+fn arguments<'a>(alloc: Global, rest: Rest<'a>) -> Result<(Ops<Operand>, Rest<'a>), ParseFault>
     ensures { Gives result (value_at instructions.arguments rest.entry) }
 {
     runs_go_on();
-    readings_take_tokens();
+    items_take_tokens();
     let mut rest = rest;
     let mut arguments = Ops::new(alloc);
     while let Some(item) = next_argument(&arguments, &rest) {
@@ -91,17 +92,18 @@ pub fn arguments<'a>(alloc: Global, rest: Rest<'a>) -> Result<(Ops<Operand>, Res
     Ok((arguments, rest))
 }
 
-/// A call, behind its word. Where its result is named, its type is not `void`.
+/// A call, behind its word. Where its result is named, its type is not `void`; else a type that is not takes a number, with this mark.
 #[tactic(auto, unfolding(ds_grammar::specs::Instructions::call_row))]
 pub fn call_row<'a>(
     alloc: Global,
     named: bool,
+    mark: Option<Mark>,
     rest: Rest<'a>,
 ) -> Result<(Op, Rest<'a>), ParseFault>
-    ensures { Gives result (value_at (instructions.call_row named) rest.entry) }
+    ensures { Gives result (value_at (instructions.call_row named (option_to_list mark)) rest.entry) }
 {
     let (_, rest) = ignored_run(alloc, rest)?;
-    let (ty, rest) = type_of(alloc, !named, rest)?;
+    let (ty, rest) = type_of(alloc, !named, mark, rest)?;
     let (callee, rest) = global(alloc, rest)?;
     let rest = punct(b"(", rest)?;
     let (args, rest) = arguments(alloc, rest)?;

@@ -11,9 +11,5 @@ mod ops;
 mod parser;
 mod trails;
 
-pub use calls::arguments;
 pub use dispatch::{head_of, row_of};
 pub use parser::parse_instr;
-
-#[cfg(test)]
-mod tests;

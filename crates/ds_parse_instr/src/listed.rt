@@ -24,7 +24,7 @@ fn first_operand(alloc: Global, operands: &Ops<Operand>) -> Result<Option<Operan
 pub fn alloca_row<'a>(alloc: Global, rest: Rest<'a>) -> Result<(Op, Rest<'a>), ParseFault>
     ensures { Gives result (value_at instructions.alloca_row rest.entry) }
 {
-    let (ty, rest) = type_of(alloc, true, rest)?;
+    let (ty, rest) = type_of(alloc, true, None, rest)?;
     let (operands, rest) = operand_trail(alloc, true, rest)?;
     let count = first_operand(alloc, &operands)?;
     Ok((Op::Alloca { ty, count }, rest))
@@ -36,7 +36,7 @@ pub fn gep_row<'a>(alloc: Global, rest: Rest<'a>) -> Result<(Op, Rest<'a>), Pars
     ensures { Gives result (value_at instructions.gep_row rest.entry) }
 {
     let (_, rest) = ignored_run(alloc, rest)?;
-    let (ty, rest) = type_of(alloc, true, rest)?;
+    let (ty, rest) = type_of(alloc, true, None, rest)?;
     let rest = punct(b",", rest)?;
     let (base, rest) = typed_value(alloc, Scalar::Ptr, rest)?;
     let (indices, rest) = operand_trail(alloc, false, rest)?;

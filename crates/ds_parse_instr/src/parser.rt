@@ -1,5 +1,5 @@
 //! The instruction at a place of a text's tokens.
-ghost use Rattle.std.specs.Prelude.{◌≡◌, ℕ, ◌+◌, ◌<◌, ◌≤◌, ◌⊎◌, length, IfOk, IfErr, OnErr, MatchResult, OnOk};
+ghost use Rattle.std.specs.Prelude.{◌≡◌, ℕ, ◌+◌, ◌<◌, ◌≤◌, ◌⊎◌, length, Err, IfOk, IfErr, OnErr, MatchResult, OnOk};
 ghost use Rattle.ds_ast.specs.declared.instr.Instr.{Instr};
 ghost use Rattle.ds_lex.specs.Lexed.{Lexed};
 ghost use Rattle.ds_grammar.specs.Lexemes.{lexemes_from};
@@ -32,6 +32,9 @@ pub fn parse_instr(
     ensures only { (instr : Instr) (n : ℕ) → Spells instructions.instruction (lexemes_from text.now tokens.now at.old) instr n →
         MatchResult result (λ found. found ≡ instr) (λ f. f ≡ ParseFault.Memory) }
     ensures refused { IfErr result (λ f. (f ≡ ParseFault.Memory) ⊎ Refuses instructions.instruction (lexemes_from text.now tokens.now at.old) (length text.now) f) }
+    // The tokens have one fault at most, and it is told, if there is memory.
+    ensures only_fault { (fault : ParseFault) → Refuses instructions.instruction (lexemes_from text.now tokens.now at.old) (length text.now) fault →
+        (result ≡ Err fault) ⊎ (result ≡ Err ParseFault.Memory) }
     ensures kept { OnErr result (at.new ≡ at.old) }
 {
     answers_are_exact();

@@ -5,7 +5,7 @@ ghost use Rattle.ds_grammar.specs.Rows as rows;
 ghost use Rattle.ds_grammar.specs.Instructions as instructions;
 
 use ds_ast::{Arm, Operand, Ops, Scalar};
-use ds_grammar::{Behind, Ending, ParseFault, Stage, readings_take_tokens, runs_go_on};
+use ds_grammar::{Behind, Ending, ParseFault, Stage, items_take_tokens, runs_go_on};
 use ds_lex::TokenKind;
 use ds_reader::{
     Rest, ending_last, is_metadata, is_punct, local, next_ending, punct, scalar_of, value,
@@ -123,7 +123,7 @@ pub fn operand_trail<'a>(
     ensures { Gives result (value_at (instructions.operand_trail at_most_one) rest.entry) }
 {
     runs_go_on();
-    readings_take_tokens();
+    items_take_tokens();
     let mut rest = rest;
     let mut operands = Ops::new(alloc);
     let mut stage = Stage::Items;
@@ -231,7 +231,7 @@ pub fn arm_trail<'a>(
     ensures { Gives result (value_at (instructions.arm_trail ty first) rest.entry) }
 {
     runs_go_on();
-    readings_take_tokens();
+    items_take_tokens();
     let mut rest = rest;
     let mut arms = Ops::new(alloc);
     arms.push(first)?;

@@ -23,7 +23,6 @@ use Rattle.ds_grammar.specs.Grammar.{Grammar}
 use Rattle.ds_grammar.specs.Tokens.{range_mark, lookup, bin_op_words}
 use Rattle.ds_grammar.specs.Rows.{run_item}
 use Rattle.ds_grammar.specs.Instructions.{if_none, cast_op_words, result_words, first_operand, part_of, part_number, returned_value, branch, head_word, head_of, row_of, ignored_call, binary_row, cast_row, icmp_row, select_row, alloca_row, load_row, store_row, gep_row, call_row, phi_row, rmw_row, cmpxchg_row, extract_row, fence_row, ret_row, br_row, switch_row, unreachable_row}
-use Rattle.ds_grammar.specs.Functions.{taking_call, taking_row}
 use Rattle.ds_parse_laws.proofs.Within.{Within, EachWithin, done, one, skip, marked, all_marked, weaker, ◌⨾◌}
 use Rattle.ds_parse_laws.proofs.Leaves.{mapped, most_true, value_within, typed_within, local_within, global_within, target_within}
 use Rattle.ds_parse_laws.proofs.Types.{Takes, type_within, any_type_within, taking_type_within}
@@ -72,7 +71,7 @@ unfolding gep_row
 gep_within = skip (λ u. any_type_within true ⨾ (λ t i. skip (λ u. typed_within Ptr ⨾ (λ b j. operand_trail_within false ⨾ (λ os k. done (op.Gep t b os) ((i, j, k), refl))))))
 
 -- a call has a result, where it must have one
-call_within : (named : Bool) → Within (call_row named) (λ o. IsOp o × (named ≡ true → has_result o ≡ true))
+call_within : (named : Bool) → Within (call_row named []) (λ o. IsOp o × (named ≡ true → has_result o ≡ true))
 unfolding call_row
 call_within named =
     skip (λ u. type_within (not named) ⨾ (λ t i. global_within ⨾ (λ g j. skip (λ u. arguments_within ⨾ (λ os k. skip (λ u. skip (λ u. skip (λ u.
@@ -189,11 +188,11 @@ named_head kind.Word bs h e = by (head_word true bs) refl e
     by None i e = ignored_head (run_item false kind.Word bs) h e
 named_head other bs h e = ignored_head (run_item false other bs) h e
 
-ignored_within : (i : RunItem) → Within (ignored_call true i) (Gives true)
+ignored_within : (i : RunItem) → Within (ignored_call true [] i) (Gives true)
 unfolding ignored_call
 ignored_within i = skip (λ a. skip (λ u. skip (λ u. weaker (call_within true) (λ o i. (i.0, i.1 refl)))))
 
-pub named_within : (h : Head) → HasResult h → Within (row_of true h) (Gives true)
+pub named_within : (h : Head) → HasResult h → Within (row_of true [] h) (Gives true)
 named_within (head.Binary o) r = binary_within o
 named_within (head.Cast o) r = cast_within o
 named_within head.Icmp r = icmp_within
@@ -220,8 +219,8 @@ named_within (head.Ignored i) r = ignored_within i
 abbrev pub GivesTaking : List Mark → Op → Type 0
 GivesTaking marks o = IsOp o × Takes marks (has_result o)
 
-taking_call_within : (marks : List Mark) → Within (taking_call marks) (GivesTaking marks)
-unfolding taking_call
+taking_call_within : (marks : List Mark) → Within (call_row false marks) (GivesTaking marks)
+unfolding call_row
 taking_call_within marks =
     skip (λ u. taking_type_within marks ⨾ (λ t i. global_within ⨾ (λ g j. skip (λ u. arguments_within ⨾ (λ os k. skip (λ u. skip (λ u. skip (λ u.
     done (op.Call t g os) ((i.0, j, k), i.1)))))))))
@@ -234,7 +233,11 @@ without_number marks h = weaker h (λ o i. (i.0, λ e. absurd (cc (e, i.1))))
 numbered_within : (marks : List Mark) {g : Grammar an_op} → Within g (Gives true) → EachWithin marks → Within g (GivesTaking marks)
 numbered_within marks h w = weaker h (λ o i. (i.0, λ e. w))
 
-pub unnamed_within : (marks : List Mark) (h : Head) → Within (taking_row marks h) (GivesTaking marks)
+taking_ignored_within : (marks : List Mark) (i : RunItem) → Within (ignored_call false marks i) (GivesTaking marks)
+unfolding ignored_call
+taking_ignored_within marks i = skip (λ a. skip (λ u. skip (λ u. taking_call_within marks)))
+
+pub unnamed_within : (marks : List Mark) (h : Head) → Within (row_of false marks h) (GivesTaking marks)
 unnamed_within marks (head.Binary o) = all_marked marks (λ w. numbered_within marks (binary_within o) w)
 unnamed_within marks (head.Cast o) = all_marked marks (λ w. numbered_within marks (cast_within o) w)
 unnamed_within marks head.Icmp = all_marked marks (λ w. numbered_within marks icmp_within w)
@@ -253,4 +256,4 @@ unnamed_within marks head.Ret = without_number marks ret_within
 unnamed_within marks head.Br = without_number marks br_within
 unnamed_within marks head.Switch = without_number marks switch_within
 unnamed_within marks head.Unreachable = without_number marks unreachable_within
-unnamed_within marks (head.Ignored i) = skip (λ a. skip (λ u. skip (λ u. taking_call_within marks)))
+unnamed_within marks (head.Ignored i) = taking_ignored_within marks i

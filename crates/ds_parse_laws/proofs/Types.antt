@@ -11,9 +11,10 @@ use Rattle.ds_ast.specs.declared.ty.Ty as ty
 use Rattle.ds_ast.specs.Bounds.{IsType, IsNamed, counts, innermost, has_values}
 use Rattle.ds_ast.specs.Equations.{counts-array, innermost-array}
 use Rattle.ds_grammar.specs.declared.fault.Mark.{Mark}
+use Rattle.ds_grammar.specs.Sort.{Sort, TypeOf}
+use Rattle.ds_grammar.specs.Grammar.{Grammar, marked_by}
 use Rattle.ds_grammar.specs.Tokens.{range_mark, lookup, scalar_words, token_name}
-use Rattle.ds_grammar.specs.Types.{Arrays, Closing, array_place, array_front, array_count, count_of, arrays_from, base_type, word_type, array_ends, all_arrays_closed, closed_type, is_flat, type_of, closes, closed, type_place}
-use Rattle.ds_grammar.specs.Functions.{taking_front, taking_type}
+use Rattle.ds_grammar.specs.Types.{Arrays, Closing, array_place, array_front, array_count, count_of, arrays_from, base_type, word_type, array_ends, all_arrays_closed, closed_type, is_flat, marked_front, taken_by, type_of, closes, closed, type_place}
 use Rattle.ds_grammar.specs.Globals.{type_rest, types, types_more, next_type, type_begin}
 use Rattle.ds_grammar.specs.Rows.{is_punct}
 use Rattle.ds_grammar.specs.Instructions.{if_none}
@@ -53,7 +54,7 @@ front_within o at h =
       elements = All-cons IsCount n o.1 i h.elements;
     }))))
 
-pub arrays_within : (o : Arrays) → Opened o → Within (arrays_from o) Opened
+pub arrays_within : (o : Arrays) → Opened o → Within (arrays_from [] o) Opened
 unfolding arrays_from
 arrays_within o h = run h (λ o t at p b e. front_within o at p)
 
@@ -135,7 +136,7 @@ inside V m o t h b has nested = record {
 abbrev pub HasValues : Bool → Bool → Type 0
 HasValues may_be_void has = may_be_void ≡ false → has ≡ true
 
-pub type_within : (may : Bool) → Within (type_of may) (IsWhole (HasValues may))
+pub type_within : (may : Bool) → Within (type_of may []) (IsWhole (HasValues may))
 unfolding type_of
 type_within may =
     arrays_within (0, []) none_opened ⨾ (λ o h. ◌⨾◌ {Q = IsBase (may || not (is_flat o.1))} (one (λ t v b e. base_is (may || not (is_flat o.1)) t.kind t.bytes v b e))
@@ -146,7 +147,7 @@ type_within may =
     both m f e g = rw (e, g) refl
 
 -- any type
-pub any_type_within : (may : Bool) → Within (type_of may) IsType
+pub any_type_within : (may : Bool) → Within (type_of may []) IsType
 any_type_within may = weaker (type_within may) (λ t h. h.0)
 
 -- THE TYPE OF A CALL that takes a number where it is not void
@@ -158,26 +159,30 @@ Takes marks has = has ≡ true → EachWithin marks
 abbrev TakenFront : List Mark → Arrays → Type 0
 TakenFront marks o = Opened o × (is_flat o.1 ≡ false → EachWithin marks)
 
-taking_front_within : (marks : List Mark) (o : Arrays) (at : ℕ) → TakenFront marks o → Within (taking_front marks o at) (TakenFront marks)
-taking_front_within marks o at h =
-    all_marked (cond (is_flat o.1) marks []) (λ w. weaker (front_within o at h.0) (λ r i. (i, λ e. by (is_flat o.1) refl w)))
+-- where the marks are taken they are within their bounds
+all_taken : {a : Sort} {g : Grammar a} {P : TypeOf a → Type 0} (marks : List Mark) (taken : Bool) → ((taken ≡ true → EachWithin marks) → Within g P)
+    → Within (marked_by (taken_by marks taken) g) P
+all_taken [] taken h = h (λ e. tt)
+all_taken (m ∷ ms) true h = all_marked (m ∷ ms) (λ w. h (λ e. w))
+all_taken (m ∷ ms) false h = h (λ e. absurd (cc (e)))
+
+taken_front_within : (marks : List Mark) (o : Arrays) (at : ℕ) → TakenFront marks o → Within (marked_front marks o at) (TakenFront marks)
+taken_front_within marks o at h = all_taken marks (is_flat o.1) (λ w. weaker (front_within o at h.0) (λ r i. (i, λ e. by (is_flat o.1) refl w)))
   where
-    by : (f : Bool) → is_flat o.1 ≡ f → EachWithin (cond f marks []) → EachWithin marks
-    by true e w = w
+    by : (f : Bool) → is_flat o.1 ≡ f → (is_flat o.1 ≡ true → EachWithin marks) → EachWithin marks
+    by true e w = w e
     by false e w = h.1 e
 
-pub taking_type_within : (marks : List Mark) → Within (taking_type marks) (IsWhole (Takes marks))
-unfolding taking_type
+pub taking_type_within : (marks : List Mark) → Within (type_of true marks) (IsWhole (Takes marks))
+unfolding type_of arrays_from
 taking_type_within marks =
-    run {P = TakenFront marks} (none_opened, λ e. absurd (cc (e))) (λ o t at p b e. taking_front_within marks o at p)
+    run {P = TakenFront marks} (none_opened, λ e. absurd (cc (e))) (λ o t at p b e. taken_front_within marks o at p)
     ⨾ (λ o h. ◌⨾◌ {Q = IsBase true} (one (λ t v b e. base_is true t.kind t.bytes v b e))
-    (λ t b. all_marked (cond (is_flat o.1 && has_values t) marks []) (λ w. closed_within (Takes marks) o t h.0 (inside (Takes marks) true o t h.0 b
-    (λ flat has. by (is_flat o.1) (has_values t) flat has w) (λ flat has. h.1 flat)))))
+    (λ t b. all_taken marks (is_flat o.1 && has_values t) (λ w. closed_within (Takes marks) o t h.0 (inside (Takes marks) true o t h.0 b
+    (λ flat has. w (both_true (is_flat o.1) (has_values t) flat has)) (λ flat has. h.1 flat)))))
   where
-    by : (f v : Bool) → f ≡ true → v ≡ true → EachWithin (cond (f && v) marks []) → EachWithin marks
-    by true true e g w = w
-    by true false e g w = absurd (cc (g))
-    by false v e g w = absurd (cc (e))
+    both_true : (f v : Bool) → f ≡ true → v ≡ true → f && v ≡ true
+    both_true f v e g = rw (e, g) refl
 
 -- LISTS OF TYPES
 

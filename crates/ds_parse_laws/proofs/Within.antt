@@ -5,10 +5,9 @@ use Rattle.std.specs.Prelude.{All, Option, Some, None}
 use Rattle.ds_grammar.specs.Sort.{Lexeme, Sort, TypeOf, maybe}
 use Rattle.ds_grammar.specs.declared.fault.Breach.{Breach}
 use Rattle.ds_grammar.specs.declared.fault.Mark.{Mark}
-use Rattle.ds_grammar.specs.Grammar.{Grammar, Done, One, Then, Marked, Loop, optional_test, optional}
+use Rattle.ds_grammar.specs.Grammar.{Grammar, Done, One, Then, Marked, Loop, optional_test, optional, marked_by}
 use Rattle.ds_grammar.specs.Form.{Form, Run}
 use Rattle.ds_grammar.specs.Fault.{AreWithin, IsBreachIn}
-use Rattle.ds_grammar.specs.Functions.{marked_by}
 use Rattle.ds_parse_laws.proofs.Alls.{all_left, all_right}
 
 -- the bytes of a token

@@ -13,7 +13,6 @@ use Rattle.ds_grammar.specs.declared.item.Head.TheVariants as head
 use Rattle.ds_grammar.specs.Sort.{an_op}
 use Rattle.ds_grammar.specs.Grammar.{Grammar}
 use Rattle.ds_grammar.specs.Instructions.{head_of, row_of}
-use Rattle.ds_grammar.specs.Functions.{taking_row}
 use Rattle.ds_print.specs.Names as print
 use Rattle.ds_print.specs.Canonical.{bin_op_word, cast_op_word, op_pieces, type_pieces, optional_operand, listed, operand_pieces, case_pieces}
 use Rattle.ds_print_laws.proofs.Gets.{Known, Gets}
@@ -39,7 +38,7 @@ call_whole t callee args ps =
 
 module _ (known : Known) where
   -- an operation with a result, whose name stands before it
-  pub named_row : (o : Op) (ps : List Piece) → IsOp o → has_result o ≡ true → EndsInstruction ps → Row true (λ marks. row_of true) o ps
+  pub named_row : (o : Op) (ps : List Piece) → IsOp o → has_result o ≡ true → EndsInstruction ps → Row true (λ marks. row_of true []) o ps
   named_row (Bin o s a b) ps h r ends = record { bytes = bin_op_word o; rest = _; head = head.Binary o; whole = refl; begins = bin_op_begins o; read = λ marks. rows.binary_read known ps ends o s a b h.0 h.1 }
   named_row (Icmp c s a b) ps h r ends = record { bytes = codes "icmp"; rest = _; head = head.Icmp; whole = refl; begins = refl; read = λ marks. rows.icmp_read known ps ends c s a b h.0 h.1 }
   named_row (Select c s a b) ps h r ends = record { bytes = codes "select"; rest = _; head = head.Select; whole = refl; begins = refl; read = λ marks. rows.select_read known ps ends c s a b h.0 h.1 h.2 }
@@ -82,7 +81,7 @@ module _ (known : Known) where
   named_row (Switch s v other cs) ps h r ends = absurd cc
   named_row Unreachable ps h r ends = absurd cc
 
-  call_row : (t : Ty) (callee : _) (args : List _) (ps : List Piece) → IsOp (Call t callee args) → has_result (Call t callee args) ≡ false → EndsInstruction ps → Row false taking_row (Call t callee args) ps
+  call_row : (t : Ty) (callee : _) (args : List _) (ps : List Piece) → IsOp (Call t callee args) → has_result (Call t callee args) ≡ false → EndsInstruction ps → Row false (row_of false) (Call t callee args) ps
   call_row Void callee args ps h r ends = record {
     bytes = codes "call";
     rest = _;
@@ -96,7 +95,7 @@ module _ (known : Known) where
   call_row (Struct name) callee args ps h r ends = absurd cc
 
   -- an operation without a result
-  pub other_row : (o : Op) (ps : List Piece) → IsOp o → has_result o ≡ false → EndsInstruction ps → Row false taking_row o ps
+  pub other_row : (o : Op) (ps : List Piece) → IsOp o → has_result o ≡ false → EndsInstruction ps → Row false (row_of false) o ps
   other_row (Store s v a) ps h r ends = record { bytes = codes "store"; rest = _; head = head.Store; whole = refl; begins = refl; read = λ marks. rows.store_read known ps ends s v a h.0 h.1 }
   other_row (Call t callee args) ps h r ends = call_row t callee args ps h r ends
   other_row Fence ps h r ends = record { bytes = codes "fence"; rest = _; head = head.Fence; whole = refl; begins = refl; read = λ marks. rows.fence_read known ps ends }

@@ -23,7 +23,7 @@ use Rattle.ds_grammar.specs.Tokens.{range_mark}
 use Rattle.ds_grammar.specs.Instructions.{condition, rmw_op, ordering, operand_trail, operands_from, arm_trail, binary_row, cast_row, icmp_row, select_row, alloca_row, load_row, store_row, gep_row, call_row, phi_row, rmw_row, cmpxchg_row, part_number, extract_row, fence_row, ret_row, br_row, cases, switch_row, unreachable_row}
 use Rattle.ds_grammar.specs.Instructions as rows
 use Rattle.ds_grammar.specs.declared.fault.Mark.{Mark}
-use Rattle.ds_grammar.specs.Functions.{taking_call, taking_type}
+use Rattle.ds_grammar.specs.Types.{type_of, arrays_from}
 use Rattle.ds_print.specs.Names as print
 use Rattle.ds_print.specs.Canonical.{more_listed, listed, type_pieces, cond_word, rmw_op_word, operand_pieces, arm_pieces, case_pieces, optional_operand, returned, target}
 use Rattle.ds_print_laws.proofs.Gets.{Known, Gets, gap, done, one, one_at, marked, run_end, ◌⨾◌}
@@ -195,7 +195,7 @@ module _ (known : Known) (ps : List Piece) (ends : EndsInstruction ps) where
 
   -- the type, the function and the arguments of a call
   pub call_read : (t : Ty) (callee : Name) (args : List Operand) → has_values t ≡ true → IsType t → IsName callee → All IsOperand args
-      → Gets (call_row true) (print.space ∷ type_pieces t ++ (print.space ∷ print.global callee ∷ print.punct "(" ∷ listed (map operand_pieces args) ++ print.punct ")" ∷ ps)) (op.Call t callee args) ps
+      → Gets (call_row true []) (print.space ∷ type_pieces t ++ (print.space ∷ print.global callee ∷ print.punct "(" ∷ listed (map operand_pieces args) ++ print.punct ")" ∷ ps)) (op.Call t callee args) ps
   unfolding call_row
   call_read t callee args values it ic ia =
       gap (none_before_type known t _ ⨾ (type_with_values_read known t _ values it ⨾ gap (global_read known callee _ ic ⨾ (one {v = tt} (λ at. refl) ⨾ (arguments_read known args ps ia
@@ -203,8 +203,11 @@ module _ (known : Known) (ps : List Piece) (ends : EndsInstruction ps) where
 
   -- the same without a result
   pub taking_call_read : (marks : List Mark) (callee : Name) (args : List Operand) → IsName callee → All IsOperand args
-      → Gets (taking_call marks) (print.space ∷ type_pieces Void ++ (print.space ∷ print.global callee ∷ print.punct "(" ∷ listed (map operand_pieces args) ++ print.punct ")" ∷ ps)) (op.Call Void callee args) ps
-  unfolding taking_call taking_type
-  taking_call_read marks callee args ic ia =
+      → Gets (call_row false marks) (print.space ∷ type_pieces Void ++ (print.space ∷ print.global callee ∷ print.punct "(" ∷ listed (map operand_pieces args) ++ print.punct ")" ∷ ps)) (op.Call Void callee args) ps
+  unfolding call_row type_of arrays_from
+  taking_call_read [] callee args ic ia =
+      gap (none_before_type known Void _ ⨾ ((run_end known (λ at. refl) ⨾ (one {v = Void} (λ at. refl) ⨾ void_closed known _)) ⨾ gap (global_read known callee _ ic ⨾ (one {v = tt} (λ at. refl) ⨾ (arguments_read known args ps ia
+      ⨾ (one {v = tt} (λ at. refl) ⨾ (no_ignored known ps (ends.no_run false) ⨾ (no_endings known ps ends ⨾ done (op.Call Void callee args) ps))))))))
+  taking_call_read (m ∷ ms) callee args ic ia =
       gap (none_before_type known Void _ ⨾ ((run_end known (λ at. refl) ⨾ (one {v = Void} (λ at. refl) ⨾ void_closed known _)) ⨾ gap (global_read known callee _ ic ⨾ (one {v = tt} (λ at. refl) ⨾ (arguments_read known args ps ia
       ⨾ (one {v = tt} (λ at. refl) ⨾ (no_ignored known ps (ends.no_run false) ⨾ (no_endings known ps ends ⨾ done (op.Call Void callee args) ps))))))))

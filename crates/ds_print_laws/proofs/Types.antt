@@ -11,7 +11,7 @@ use Rattle.ds_ast.specs.declared.ty.Scalar.{Scalar}
 use Rattle.ds_ast.specs.declared.ty.Scalar.TheVariants.{I1, I8, I16, I32, I64, Ptr}
 use Rattle.ds_ast.specs.Bounds.{IsType, IsNamed, counts, innermost, has_values}
 use Rattle.ds_grammar.specs.Sort.{Sort, TypeOf, a_ty}
-use Rattle.ds_grammar.specs.Grammar.{Grammar, Done, Then, Marked, Loop}
+use Rattle.ds_grammar.specs.Grammar.{Grammar, Then}
 use Rattle.ds_grammar.specs.Grammar as grammar
 use Rattle.ds_grammar.specs.Tokens.{range_mark}
 use Rattle.ds_grammar.specs.Types.{Arrays, Closing, array_place, array_front, array_count, arrays_from, base_type, array_ends, all_arrays_closed, closed_type, is_flat, type_of, type_place}
@@ -33,7 +33,7 @@ closing c = Then (array_ends false c) all_arrays_closed
 
 -- a type inside these arrays
 abbrev pub inside : (List ℕ → Bool) → Arrays → Grammar a_ty
-inside may opened = Then (arrays_from opened) (λ o. Then (grammar.One {a = a_ty} (λ t. base_type (may o.1) t.kind t.bytes)) (λ b. closed_type o b))
+inside may opened = Then (arrays_from [] opened) (λ o. Then (grammar.One {a = a_ty} (λ t. base_type (may o.1) t.kind t.bytes)) (λ b. closed_type o b))
 
 -- arrays that are not too many are built
 closed_by_depth : (place : ℕ) (ns : List ℕ) (t : Ty) (ps rs : List Piece) (w : Ty) → length ns ≤ 32 → Gets (closing (ns, t)) ps w rs → Gets (closed_type (place, ns) t) ps w rs
@@ -101,12 +101,12 @@ module _ (known : Known) (may : List ℕ → Bool) (nested : (n : ℕ) (ns : Lis
 
 module _ (known : Known) where
   -- a type, where void may stand
-  pub type_read : (t : Ty) (ps : List Piece) → IsType t → Gets (type_of true) (type_pieces t ++ ps) t ps
+  pub type_read : (t : Ty) (ps : List Piece) → IsType t → Gets (type_of true []) (type_pieces t ++ ps) t ps
   unfolding type_of
   type_read t ps h = whole_read known (λ ns. true) (λ n ns. refl) t ps (inl refl) h
 
   -- a type, where void may not stand
-  pub type_with_values_read : (t : Ty) (ps : List Piece) → has_values t ≡ true → IsType t → Gets (type_of false) (type_pieces t ++ ps) t ps
+  pub type_with_values_read : (t : Ty) (ps : List Piece) → has_values t ≡ true → IsType t → Gets (type_of false []) (type_pieces t ++ ps) t ps
   unfolding type_of
   type_with_values_read t ps e h = whole_read known (λ ns. not (is_flat ns)) (λ n ns. refl) t ps (inr e) h
 

@@ -6,6 +6,8 @@ use Rattle.ds_ast.specs.Bounds.{Bounds}
 use Rattle.ds_grammar.specs.Reading.{start, value_at}
 use Rattle.ds_grammar.specs.Lexemes.{lexemes_from}
 use Rattle.ds_grammar.specs.Functions.{module_text, Text}
+use Rattle.ds_grammar.specs.declared.fault.ParseFault.{ParseFault}
+use Rattle.ds_parse.specs.Faults.{HasParseFault}
 use Rattle.ds_print.specs.Canonical.{module_pieces, canon}
 use Rattle.ds_print_laws.specs.Placed.{placed}
 
@@ -24,3 +26,9 @@ ApartTextsAreSpelled = (m : Module) → Bounds m → AreApart (module_pieces m) 
 -- the canonical text of a module within its bounds spells that module
 abbrev pub CanonicalTextsSpellTheirModules : Type 0
 CanonicalTextsSpellTheirModules = (m : Module) → Bounds m → Text (canon m) m
+
+-- the canonical text of a module within its bounds spells that module and no other, and it has no fault
+abbrev pub CanonicalTextsAreParsed : Type 0
+CanonicalTextsAreParsed =
+    (m : Module) → Bounds m
+    → Text (canon m) m × ((n : Module) → Text (canon m) n → n ≡ m) × ((f : ParseFault) → HasParseFault (canon m) f → ⊥)

@@ -4,10 +4,11 @@
 #![tactic(auto)]
 
 ghost use Rattle.ds_print_laws.specs.Apart.{CanonicalPiecesAreApart};
-ghost use Rattle.ds_print_laws.specs.Laws.{ApartTextsAreSpelled, CanonicalTextsSpellTheirModules, CanonicalTokensAreRead, PlacedAreLexemes};
+ghost use Rattle.ds_print_laws.specs.Laws.{ApartTextsAreSpelled, CanonicalTextsAreParsed, CanonicalTextsSpellTheirModules, CanonicalTokensAreRead, PlacedAreLexemes};
 
 use ds_grammar::{optionals_are_read, reading_is_exact, runs_go_on};
 use ds_lex::{decimals_are_read, written_texts_are_lexed};
+use ds_parse::{texts_are_not_refused, texts_spell_one_module};
 
 /// The tokens that the canonical text of a module is written of are read as that module, up to the last of them and with
 /// nothing out of its bound.
@@ -44,4 +45,13 @@ pub fn canonical_texts_spell_their_modules()
 {
     apart_texts_are_spelled();
     canonical_pieces_are_apart();
+}
+
+/// The canonical text of a module within its bounds spells that module and no other, and has no fault. So `parse` gives the module.
+pub fn canonical_texts_are_parsed()
+    ensures { CanonicalTextsAreParsed }
+{
+    canonical_texts_spell_their_modules();
+    texts_spell_one_module();
+    texts_are_not_refused();
 }

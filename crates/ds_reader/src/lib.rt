@@ -25,5 +25,5 @@ pub use runs::{
     run_rest,
 };
 pub use texts::text_of;
-pub use types::{array_front, arrays_from, base_type, closed_type, next_array, type_of};
+pub use types::{array_front, arrays_from, base_type, closed_type, has_values, taken, type_of};
 pub use words::{BIN_OP_WORDS, find, scalar_of};

@@ -1,5 +1,6 @@
 //! The tokens that are left to read.
 ghost use Rattle.std.specs.Prelude.{◌≡◌, ◌≤◌, length, option_map};
+ghost use Rattle.std.specs.Option.{option_to_list};
 ghost use Rattle.ds_grammar.specs.Lexemes.{lexemes, AreInside};
 ghost use Rattle.ds_grammar.specs.Fault as fault;
 ghost use Rattle.ds_grammar.specs.Fault.{dead_fault};
@@ -93,6 +94,16 @@ impl<'a> Rest<'a> {
             text,
             tokens,
             worst: worse(worst, mark),
+        }
+    }
+
+    /// This place with this mark more, if there is one.
+    pub fn marked_by(self, mark: Option<Mark>) -> Rest<'a>
+        ensures { result ≡ reading.marked_all self.entry (option_to_list mark) }
+    {
+        match mark {
+            Some(mark) => self.marked(mark),
+            None => self,
         }
     }
 

@@ -1,5 +1,7 @@
 //! Types.
-ghost use Rattle.std.specs.Prelude.{◌≡◌, IfOk, nat_lt, MatchOption, Some, None, [], ◌∷◌, length};
+ghost use Rattle.std.specs.Prelude.{◌≡◌, IfOk, if◌then◌else◌, MatchOption, Some, None, [], ◌∷◌};
+ghost use Rattle.std.specs.Option.{option_to_list};
+ghost use Rattle.ds_ast.specs.Bounds as bounds;
 ghost use Rattle.ds_grammar.specs.Reading.{Gives, first_value, value_at};
 ghost use Rattle.ds_grammar.specs.Types as types;
 
@@ -9,7 +11,7 @@ use crate::operands::word;
 use crate::rest::Rest;
 use crate::words::scalar_of;
 use ds_ast::{Boxed, Ty};
-use ds_grammar::{Mark, ParseFault, readings_take_tokens, runs_go_on};
+use ds_grammar::{Mark, ParseFault, items_take_tokens, marks_are_read, runs_go_on};
 use ds_lex::{TokenKind, number_of};
 use std::alloc::{AllocError, Global};
 
@@ -43,7 +45,7 @@ fn array_count<'a>(rest: Rest<'a>) -> Result<(u32, Rest<'a>), ParseFault>
 }
 
 /// Where the next token is the `[` of an array, its place.
-pub fn next_array(rest: &Rest) -> Option<u32>
+fn next_array(rest: &Rest) -> Option<u32>
     ensures { result ≡ first_value (λ t. types.array_place t.kind t.bytes t.at) rest.now.left }
 {
     match rest.peek() {
@@ -70,17 +72,55 @@ pub fn array_front<'a>(
     Ok((opened, rest))
 }
 
+/// Whether there are values of a type: it is not `void`.
+pub fn has_values(ty: &Ty) -> bool
+    ensures { result ≡ bounds.has_values ty.now }
+{
+    match ty {
+        Ty::Void => false,
+        Ty::One(_) => true,
+        Ty::Array { .. } => true,
+        Ty::Struct(_) => true,
+    }
+}
+
+/// The mark of a number, where it is taken.
+pub fn taken(mark: Option<Mark>, is_taken: bool) -> Option<Mark>
+    ensures by_marks { option_to_list result ≡ types.taken_by (option_to_list mark) is_taken }
+    ensures by_test { option_to_list result ≡ if is_taken then option_to_list mark else [] }
+{
+    if is_taken { mark } else { None }
+}
+
+/// What stands behind the `[` of an array; at the first token of its type a number is taken, with this mark.
+fn marked_front<'a>(
+    mark: Option<Mark>,
+    opened: Arrays,
+    at: u32,
+    rest: Rest<'a>,
+) -> Result<(Arrays, Rest<'a>), ParseFault>
+    ensures { Gives result (value_at (types.marked_front (option_to_list mark) opened at) rest.entry) }
+{
+    marks_are_read();
+    let rest = rest.marked_by(taken(mark, opened.is_empty()));
+    array_front(opened, at, rest)
+}
+
 /// Any number of arrays that a type goes on with, inside these.
 #[tactic(auto, unfolding(ds_grammar::specs::Types::arrays_from))]
-pub fn arrays_from<'a>(opened: Arrays, rest: Rest<'a>) -> Result<(Arrays, Rest<'a>), ParseFault>
-    ensures { Gives result (value_at (types.arrays_from opened) rest.entry) }
+pub fn arrays_from<'a>(
+    mark: Option<Mark>,
+    opened: Arrays,
+    rest: Rest<'a>,
+) -> Result<(Arrays, Rest<'a>), ParseFault>
+    ensures { Gives result (value_at (types.arrays_from (option_to_list mark) opened) rest.entry) }
 {
     runs_go_on();
-    readings_take_tokens();
+    items_take_tokens();
     let mut rest = rest;
     let mut opened = opened;
     while let Some(at) = next_array(&rest) {
-        let (inner, behind) = array_front(opened, at, rest.past())?;
+        let (inner, behind) = marked_front(mark, opened, at, rest.past())?;
         opened = inner;
         rest = behind;
     }
@@ -172,21 +212,26 @@ pub fn closed_type<'a>(
     }
 }
 
-/// `void`, a type of a register, an array, or the name of a struct; `void` alone may be forbidden.
+/// `void`, a type of a register, an array, or the name of a struct; `void` alone may be forbidden. Where it is not `void` its first token
+/// takes a number, with this mark.
 #[tactic(auto, unfolding(ds_grammar::specs::Types::type_of))]
 pub fn type_of<'a>(
     alloc: Global,
     may_be_void: bool,
+    mark: Option<Mark>,
     rest: Rest<'a>,
 ) -> Result<(Ty, Rest<'a>), ParseFault>
-    ensures { Gives result (value_at (types.type_of may_be_void) rest.entry) }
+    ensures { Gives result (value_at (types.type_of may_be_void (option_to_list mark)) rest.entry) }
 {
-    let (opened, rest) = arrays_from(Arrays::new(alloc), rest)?;
+    marks_are_read();
+    let (opened, rest) = arrays_from(mark, Arrays::new(alloc), rest)?;
     let may_be_void = may_be_void || !opened.is_empty();
     let read = match rest.peek() {
         Some((kind, bytes, _)) => base_type(alloc, may_be_void, kind, bytes)?,
         None => None,
     };
     let (base, rest) = rest.take(read)?;
+    let is_taken = opened.is_empty() && has_values(&base);
+    let rest = rest.marked_by(taken(mark, is_taken));
     closed_type(alloc, opened, base, rest)
 }

@@ -3,7 +3,6 @@ use Rattle.ds_grammar.specs.Sort.{a_param, a_scalar, a_number, both_of, list_of,
 use Rattle.ds_grammar.specs.Reading.{value_at}
 use Rattle.ds_grammar.specs.Functions.{next_parameter, declared_more}
 use Rattle.ds_parse_function.specs.Runs.{declared_from}
-use Rattle.ds_parse_function.proofs.Taken.{item_takes}
 use Rattle.ds_parse_function.proofs.declared.declared_parameters.Goals as goal
 
 pub loop-item-preserved : goal.loop-item-preserved
@@ -16,6 +15,6 @@ loop-item-preserved c =
 
 pub loop-item-smaller : goal.loop-item-smaller
 loop-item-smaller c =
-    item_takes c.readings_take_tokens.ensures (λ t. next_parameter c.loop-item.params t.kind t.bytes t.at) c.in-Some.item (list_of a_param)
+    c.items_take_tokens.ensures (maybe (both_of a_scalar a_number)) (list_of a_param) (λ t. next_parameter c.loop-item.params t.kind t.bytes t.at) c.in-Some.item
     (declared_more c.loop-item.params c.in-Some.item) c.in_ok-more.more c.loop-item.rest c.in_ok-more.behind
     (sym c.in-Some.ensures) (ap (value_at (declared_more c.loop-item.params c.in-Some.item)) (sym c.past.ensures) ∙ c.in_ok-more.ensures)

@@ -3,7 +3,6 @@ use Rattle.ds_grammar.specs.Sort.{some_params, a_scalar, a_number, both_of, mayb
 use Rattle.ds_grammar.specs.Reading.{value_at}
 use Rattle.ds_grammar.specs.Functions.{next_parameter, parameters_more}
 use Rattle.ds_parse_function.specs.Runs.{parameters_from}
-use Rattle.ds_parse_function.proofs.Taken.{item_takes}
 use Rattle.ds_parse_function.proofs.parameters.parameters_from.Goals as goal
 
 pub loop-item-preserved : goal.loop-item-preserved
@@ -16,6 +15,6 @@ loop-item-preserved c =
 
 pub loop-item-smaller : goal.loop-item-smaller
 loop-item-smaller c =
-    item_takes c.readings_take_tokens.ensures (λ t. next_parameter c.loop-item.params.params t.kind t.bytes t.at) c.in-Some.item some_params
+    c.items_take_tokens.ensures (maybe (both_of a_scalar a_number)) some_params (λ t. next_parameter c.loop-item.params.params t.kind t.bytes t.at) c.in-Some.item
     (parameters_more c.loop-item.params c.in-Some.item) c.in_ok-more.more c.loop-item.rest c.in_ok-more.behind
     (sym c.in-Some.ensures) (ap (value_at (parameters_more c.loop-item.params c.in-Some.item)) (sym c.past.ensures) ∙ c.in_ok-more.ensures)

@@ -4,7 +4,7 @@ use Rattle.ds_grammar.specs.Lexemes.{lexemes_from, AreInside}
 use Rattle.ds_grammar.specs.Reading.{value_at}
 use Rattle.ds_grammar.specs.Parsed.{answer}
 use Rattle.ds_grammar.specs.Instructions.{instruction}
-use Rattle.ds_parse_instr.proofs.Parsing.{length_from, start_is, passed_on, answered, moved, only_ok, only_memory}
+use Rattle.ds_parse_instr.proofs.Parsing.{length_from, start_is, passed_on, told_on, answered, moved, only_ok, only_memory, no_value, only_theirs}
 use Rattle.ds_parse_instr.proofs.parser.parse_instr.Goals as goal
 
 pub new-requires-clause-inside : goal.new-requires-clause-inside
@@ -33,3 +33,19 @@ returns-clause-only c = λ instr n h.
     let s = c.new.ensures ∙ start_is c.args.text.now c.as_slice-all.result.now c.args.tokens.now c.args.at.now (length c.args.text.now) c.as_slice-all.ensures in
     let e = subst (λ p. answer (value_at instruction p) ≡ Ok (c.in_ok-instr.instr, c.in_ok-instr.left)) s c.in_ok-instr.ensures in
     only_ok instruction ts (length c.args.text.now) c.answers_are_exact.ensures.spelled c.in_ok-instr.instr instr c.in_ok-instr.left n e h
+
+pub returns-in_err-instr-clause-only_fault : goal.returns-in_err-instr-clause-only_fault
+returns-in_err-instr-clause-only_fault c = λ f h.
+    let ts = lexemes_from c.args.text.now c.args.tokens.now c.args.at.now in
+    let end = length c.args.text.now in
+    let s = c.new.ensures ∙ start_is c.args.text.now c.as_slice-all.result.now c.args.tokens.now c.args.at.now end c.as_slice-all.ensures in
+    told_on c.from_residual.result c.in_err-instr.field-0.0 f c.from_residual.ensures
+    (only_theirs instruction ts end c.answers_are_exact.ensures.fault c.new.result s c.in_err-instr.field-0.0 c.in_err-instr.ensures f h)
+
+pub returns-clause-only_fault : goal.returns-clause-only_fault
+returns-clause-only_fault c = λ f h.
+    let ts = lexemes_from c.args.text.now c.args.tokens.now c.args.at.now in
+    let end = length c.args.text.now in
+    let s = c.new.ensures ∙ start_is c.args.text.now c.as_slice-all.result.now c.args.tokens.now c.args.at.now end c.as_slice-all.ensures in
+    let e = subst (λ p. answer (value_at instruction p) ≡ Ok (c.in_ok-instr.instr, c.in_ok-instr.left)) s c.in_ok-instr.ensures in
+    absurd (no_value instruction ts end c.answers_are_exact.ensures.fault c.in_ok-instr.instr c.in_ok-instr.left e f h)
