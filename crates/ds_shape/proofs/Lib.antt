@@ -6,7 +6,6 @@ mod TriedWords
 pub mod Exist
 pub mod Computed
 pub mod Words
-pub mod Walked
 pub mod Caps
 pub mod Arrays
 pub mod Lists

@@ -8,10 +8,8 @@ use Rattle.ds_ast.specs.declared.module.StructDef.{StructDef}
 use Rattle.ds_ast.specs.declared.module.GlobalDef.{GlobalDef}
 use Rattle.ds_shape.specs.Sizes.{Extent, HasExtent, HasOffset, extent_of, offset_of}
 use Rattle.ds_shape.specs.Written.{Line, lines_of}
-use Rattle.ds_shape.specs.Types.{Stands, Addresses}
-use Rattle.ds_shape.specs.Address.{Step, address_steps}
+use Rattle.ds_shape.specs.Types.{Stands}
 use Rattle.ds_shape.specs.Image.{location_of, words_of_global, address_of, image_of}
-use Rattle.ds_ast.specs.declared.operand.Operand.{Operand}
 use Rattle.ds_ast.specs.Bounds.{fields_of}
 use Rattle.ds_shape.specs.Accepted.{HasLayout, HasWords}
 use Rattle.ds_shape.specs.Fault.{HasShapeFault}
@@ -69,11 +67,6 @@ FieldsFit = (m : Module) (name : Name) (fields : List Ty) (t : Ty) → HasLayout
 -- with an array its elements fit
 abbrev pub ElementsFit : Type 0
 ElementsFit = (structs : List StructDef) (count : ℕ) (of : Ty) → Fits structs (ty.Array count of) → Fits structs of
-
--- the indices of an address keep the rule exactly where each of them is a step
-abbrev pub AddressesAreSteps : Type 0
-AddressesAreSteps = (m : Module) (t : Ty) (indices : List Operand) →
-    Addresses m t indices ↔ ((steps : List Step) × (address_steps m.structs t indices ≡ Some steps))
 
 -- in a module that has a layout the words with which the globals begin are as many as the globals have
 abbrev pub WordsAreCounted : Type 0

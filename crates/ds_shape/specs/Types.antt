@@ -1,6 +1,6 @@
 -- The types of values in a function, and which instructions keep the rules of types.
 use Rattle.std.specs.Prelude.{◌≡◌, ℕ, zero, suc, ◌<◌, ◌⊎◌, List, [], ◌∷◌, ◌++◌, length, map, flat_map, Option, Some}
-use Rattle.std.specs.Prelude.{None, slice_get, All, IfSome}
+use Rattle.std.specs.Prelude.{None, slice_get, All, IfSome, IsSome}
 use Rattle.ds_ast.specs.declared.name.Name.{Name}
 use Rattle.ds_ast.specs.declared.ty.Scalar.{Scalar}
 use Rattle.ds_ast.specs.declared.ty.Scalar.TheVariants.{I1, I8, I16, I32, I64, Ptr}
@@ -27,6 +27,7 @@ use Rattle.ds_ast.specs.declared.module.Block.{Block}
 use Rattle.ds_ast.specs.Bounds.{width, fields_of}
 use Rattle.ds_names.specs.Names.{Among}
 use Rattle.ds_shape.specs.Operands.{operands_of}
+use Rattle.ds_shape.specs.Address.{steps_into, address_steps}
 use Rattle.ds_shape.specs.Externals.{TakesFunction, TakesNull, IsThreadFunction}
 use Rattle.ds_shape.specs.declared.local.LocalType.{LocalType}
 use Rattle.ds_shape.specs.declared.local.LocalType.TheVariants.{Plain, Pair}
@@ -142,31 +143,14 @@ IsNoVoid (One s) = Unit {0}
 IsNoVoid (Array' count _ of) = Unit {0}
 IsNoVoid (Struct name) = Unit {0}
 
--- the field behind so many
-abbrev pub FieldAt : List Ty → ℕ → Ty → Type 0
-FieldAt fields n next =
-    (before : List Ty) × (after : List Ty) × (fields ≡ before ++ next ∷ after) × (length before ≡ n)
-
 module _ (m : Module) where
-  -- a type behind one index more: that of an array's elements by any index, that of a struct's field by its number as
-  -- a literal of i32
-  abbrev pub Steps : Ty → Operand → Ty → Type 0
-  Steps Void index next = ⊥
-  Steps (One s) index next = ⊥
-  Steps (Array' count _ (more_of-Ty of end_of-Ty)) index next = next ≡ of
-  Steps (Struct name) index next =
-      (fields : List Ty) × (n : ℕ) × (fields_of m.structs name ≡ Some fields)
-      × (index.ty ≡ I32) × (index.value ≡ Int n) × FieldAt fields n next
-
-  -- the indices walk into the type
+  -- each index leads into the type to which the one before leads
   abbrev pub Walks : Ty → List Operand → Type 0
-  Walks t [] = Unit {0}
-  Walks t (i ∷ is) = (next : Ty) × Steps t i next × Walks next is
+  Walks t indices = IsSome (steps_into m.structs t indices)
 
   -- the indices of an address: the first counts whole values of the type, the others walk into it
   abbrev pub Addresses : Ty → List Operand → Type 0
-  Addresses t [] = Unit {0}
-  Addresses t (i ∷ is) = Walks t is
+  Addresses t indices = IsSome (address_steps m.structs t indices)
 
   -- the value is the name of a function that a thread runs
   abbrev pub IsThreadStart : Value → Type 0

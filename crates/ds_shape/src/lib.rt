@@ -1,7 +1,7 @@
 //! What the sizes of types are, the layout of a module's types, and which modules are accepted.
 #![tactic(auto)]
 
-ghost use Rattle.ds_shape.specs.Laws.{ExtentsAreUnique, ExtentsExist, ExtentsAreComputed, OffsetsAreUnique, OffsetsExist, OffsetsAreComputed, LayoutsAreNotRefused, OneFirstFault, WrittenTypesFit, FieldsFit, ElementsFit, AddressesAreSteps, WordsAreCounted, GlobalsAreLaidOut};
+ghost use Rattle.ds_shape.specs.Laws.{ExtentsAreUnique, ExtentsExist, ExtentsAreComputed, OffsetsAreUnique, OffsetsExist, OffsetsAreComputed, LayoutsAreNotRefused, OneFirstFault, WrittenTypesFit, FieldsFit, ElementsFit, WordsAreCounted, GlobalsAreLaidOut};
 
 mod extents;
 mod fault;
@@ -71,11 +71,6 @@ pub fn fields_fit()
 /// Where an array fits, its elements do.
 pub fn elements_fit()
     ensures { ElementsFit }
-{}
-
-/// The indices of an address keep the rule of types exactly where each of them leads on, by so many bytes.
-pub fn addresses_are_steps()
-    ensures { AddressesAreSteps }
 {}
 
 /// The globals of a module that has a layout begin with as many words as they have.

@@ -1,9 +1,11 @@
 -- The walk of an address's indices, step by step.
-use Rattle.std.proofs.Common.{◌≡◌, ◌↔◌, ℕ, zero, suc, ◌<◌, ◌≤◌, ◌+◌, List, [], ◌∷◌, ◌++◌, length, drop, get_or, Option}
+use Rattle.std.proofs.Common.{◌≡◌, ◌↔◌, ℕ, zero, suc, ◌<◌, ◌≤◌, ◌+◌, List, [], ◌∷◌, ◌++◌, length, drop, get_or, Option, true≢false}
 use Rattle.std.proofs.Common.{Some, None, slice_get, refl, sym, ◌∙◌, subst, ap}
 use Rattle.std.proofs.lemmas.List.{drop_more, drop_all}
 use Rattle.std.proofs.lemmas.Option.{none-some}
 use Rattle.std.specs.Option.{unwrap_or}
+use Rattle.std.specs.Prelude.{is_some, IsSome, option_map, option_and_then}
+use Rattle.ds_ast.specs.declared.name.Name.{Name}
 use Rattle.ds_ast.specs.declared.ty.Scalar.{Scalar}
 use Rattle.ds_ast.specs.declared.ty.Scalar.TheVariants.{I1, I8, I16, I32, I64, Ptr}
 use Rattle.ds_ast.specs.declared.ty.Ty.{Ty, Void, One, Struct, Array', more_of-Ty, end_of-Ty}
@@ -15,7 +17,9 @@ use Rattle.ds_ast.specs.declared.operand.Operand.{Operand}
 use Rattle.ds_ast.specs.declared.module.Module.{Module}
 use Rattle.ds_ast.specs.declared.module.StructDef.{StructDef}
 use Rattle.ds_ast.specs.Bounds.{fields_of}
-use Rattle.ds_shape.specs.Types.{Steps, Walks, FieldAt}
+use Rattle.ds_shape.specs.Sizes.{offset_of}
+use Rattle.ds_shape.specs.Address.{Step, field_number, field_step, step_into, steps_into}
+use Rattle.ds_shape.specs.Types.{Walks}
 use Rattle.ds_typing.specs.Walking.{literal, numbered, next_field, next_type}
 use denote.Hole.Carrier.{hidden}
 
@@ -31,85 +35,89 @@ unsome x y same = ap (λ o. unwrap_or o x) same
 none_is_some : {A : Type 0} (x : A) → None ≡ Some x → ⊥
 none_is_some x same = none-some x same
 
--- the field at a place
-field_at : (fields : List Ty) (n : ℕ) (next : Ty) → slice_get fields n ≡ Some next → FieldAt fields n next
-field_at [] n next is = absurd (none_is_some next is)
-field_at (t ∷ ts) zero next is = ([], ts, ap (λ x. x ∷ ts) (unsome t next is), refl)
-field_at (t ∷ ts) (suc n) next is =
-    let more = field_at ts n next is in (t ∷ more.0, more.1, ap (λ xs. t ∷ xs) more.2, ap (λ k. suc k) more.3)
+-- a literal of i32 names a field
+literal_is_number : (s : Scalar) (v : Value) → literal s v ≡ field_number s v
+literal_is_number I1 v = refl
+literal_is_number I8 v = refl
+literal_is_number I16 v = refl
+literal_is_number I32 (Int n) = refl
+literal_is_number I32 Null = refl
+literal_is_number I32 Undef = refl
+literal_is_number I32 (Local name) = refl
+literal_is_number I32 (Global name) = refl
+literal_is_number I64 v = refl
+literal_is_number Ptr v = refl
 
-at_place : (before after : List Ty) (next : Ty) → slice_get (before ++ next ∷ after) (length before) ≡ Some next
-at_place [] after next = refl
-at_place (t ∷ before) after next = at_place before after next
+-- the field of this number, where there are fields
+abbrev field_in : Option (List Ty) → Option ℕ → Option Ty
+field_in None n = None
+field_in (Some fields) n = numbered fields n
 
-place_of : (fields : List Ty) (n : ℕ) (next : Ty) → FieldAt fields n next → slice_get fields n ≡ Some next
-place_of fields n next f =
-    subst (λ k. slice_get fields k ≡ Some next) f.3
-    (subst (λ xs. slice_get xs (length f.0) ≡ Some next) (sym f.2) (at_place f.0 f.1 next))
+field_in_same : (of : Option (List Ty)) (i : Operand) → next_field of i ≡ field_in of (literal i.ty i.value)
+field_in_same None i = refl
+field_in_same (Some fields) i = refl
 
--- a literal of i32
-literal_is : (s : Scalar) (v : Value) (n : ℕ) → literal s v ≡ Some n → (s ≡ I32) × (v ≡ Int n)
-literal_is I1 v n is = absurd (none_is_some n is)
-literal_is I8 v n is = absurd (none_is_some n is)
-literal_is I16 v n is = absurd (none_is_some n is)
-literal_is I32 (Int k) n is = (refl, ap Int (unsome k n is))
-literal_is I32 Null n is = absurd (none_is_some n is)
-literal_is I32 Undef n is = absurd (none_is_some n is)
-literal_is I32 (Local name) n is = absurd (none_is_some n is)
-literal_is I32 (Global name) n is = absurd (none_is_some n is)
-literal_is I64 v n is = absurd (none_is_some n is)
-literal_is Ptr v n is = absurd (none_is_some n is)
+-- the type of a step
+abbrev next_of : Option Step → Option Ty
+next_of o = option_map (λ (s : Step). s.next) o
 
-is_literal : (s : Scalar) (v : Value) (n : ℕ) → s ≡ I32 → v ≡ Int n → literal s v ≡ Some n
-is_literal s v n s_is v_is =
-    subst (λ t. literal t v ≡ Some n) (sym s_is) (subst (λ w. literal I32 w ≡ Some n) (sym v_is) refl)
+-- the step to a field leads to its type
+to_type : (step : Ty → Step) → ((t : Ty) → (step t).next ≡ t) → (o : Option Ty)
+    → o ≡ next_of (option_and_then (λ t. Some (step t)) o)
+to_type step is None = refl
+to_type step is (Some t) = ap Some (sym (is t))
 
--- the parts of a step into a struct
-abbrev Enters : Option (List Ty) → Operand → Ty → Type 0
-Enters of index next = (fields : List Ty) × (n : ℕ) × (of ≡ Some fields) × (index.ty ≡ I32) × (index.value ≡ Int n)
-    × FieldAt fields n next
+field_stepped : (structs : List StructDef) (name : Name) (of : Option (List Ty)) (n : Option ℕ)
+    → fields_of structs name ≡ of → field_in of n ≡ next_of (option_and_then (field_step structs name) n)
+field_stepped structs name None None is = refl
+field_stepped structs name None (Some n) is = rw is refl
+field_stepped structs name (Some fields) None is = refl
+field_stepped structs name (Some fields) (Some n) is =
+    let step : Ty → Step = λ t. record { next = t; fixed = unwrap_or (offset_of structs name n) 0; scale = 0 } in
+    let of : Option (List Ty) → Option Ty = λ o. next_of
+    (option_and_then (λ (fs : List Ty). option_and_then (λ t. Some (step t)) (slice_get fs n)) o) in
+    to_type step (λ t. refl) (slice_get fields n) ∙ ap of (sym is)
 
-numbered_at : (fields : List Ty) (index : Operand) (next : Ty) (o : Option ℕ) → literal index.ty index.value ≡ o
-    → numbered fields o ≡ Some next → Enters (Some fields) index next
-numbered_at fields index next None lit is = absurd (none_is_some next is)
-numbered_at fields index next (Some n) lit is =
-    let parts = literal_is index.ty index.value n lit in (fields, n, refl, parts.0, parts.1, field_at fields n next is)
+-- the next type is that of the step
+pub next_is : (structs : List StructDef) (t : Ty) (i : Operand)
+    → next_type structs t i ≡ next_of (step_into structs t i)
+next_is structs Void i = refl
+next_is structs (One s) i = refl
+next_is structs (Array' count _ (more_of-Ty of end_of-Ty)) i = refl
+next_is structs (Struct name) i =
+    field_in_same (fields_of structs name) i
+    ∙ (ap (field_in (fields_of structs name)) (literal_is_number i.ty i.value)
+    ∙ field_stepped structs name (fields_of structs name) (field_number i.ty i.value) refl)
 
-enters : (of : Option (List Ty)) (index : Operand) (next : Ty) → next_field of index ≡ Some next → Enters of index next
-enters None index next is = absurd (none_is_some next is)
-enters (Some fields) index next is = numbered_at fields index next (literal index.ty index.value) refl is
+-- whether there is a value does not change with the value
+mapped : {A B : Type 0} (f : A → B) (o : Option A) → is_some (option_map f o) ≡ is_some o
+mapped f None = refl
+mapped f (Some x) = refl
 
-entered : (of : Option (List Ty)) (index : Operand) (next : Ty) → Enters of index next
-    → next_field of index ≡ Some next
-entered of index next e =
-    subst (λ o. next_field o index ≡ Some next) (sym e.2)
-    (subst (λ l. numbered e.0 l ≡ Some next) (sym (is_literal index.ty index.value e.1 e.3 e.4))
-    (place_of e.0 e.1 next e.5))
+-- steps behind one that leads to a type
+behind : (structs : List StructDef) (o : Option Step) (is : List Operand) (next : Ty) → next_of o ≡ Some next
+    → is_some (option_and_then (λ (s : Step). option_map (λ ss. s ∷ ss) (steps_into structs s.next is)) o)
+    ≡ is_some (steps_into structs next is)
+behind structs None is next leads = absurd (none_is_some next leads)
+behind structs (Some s) is next leads =
+    mapped (λ ss. s ∷ ss) (steps_into structs s.next is)
+    ∙ ap (λ t. is_some (steps_into structs t is)) (unsome s.next next leads)
+
+nowhere : (structs : List StructDef) (o : Option Step) (is : List Operand) → next_of o ≡ None
+    → IsSome (option_and_then (λ (s : Step). option_map (λ ss. s ∷ ss) (steps_into structs s.next is)) o) → ⊥
+nowhere structs None is leads there = true≢false (sym there)
+nowhere structs (Some s) is leads there = none_is_some s.next (sym leads)
 
 module _ (m : Module) where
-  -- a step is to the one next type
-  steps : (t : Ty) (i : Operand) (next : Ty) → next_type m.structs t i ≡ Some next → Steps m t i next
-  steps Void i next is = none_is_some next is
-  steps (One s) i next is = none_is_some next is
-  steps (Array' count _ (more_of-Ty of end_of-Ty)) i next is = sym (unsome of next is)
-  steps (Struct name) i next is = enters (fields_of m.structs name) i next is
-
-  stepped : (t : Ty) (i : Operand) (next : Ty) → Steps m t i next → next_type m.structs t i ≡ Some next
-  stepped Void i next s = absurd s
-  stepped (One s) i next no_step = absurd no_step
-  stepped (Array' count _ (more_of-Ty of end_of-Ty)) i next s = ap Some (sym s)
-  stepped (Struct name) i next s = entered (fields_of m.structs name) i next s
-
   pub walks_on : (t next : Ty) (i : Operand) (is : List Operand) → next_type m.structs t i ≡ Some next
       → Walks m t (i ∷ is) ↔ Walks m next is
-  walks_on t next i is one = (
-    λ w. subst (λ u. Walks m u is) (unsome w.0 next (sym (stepped t i w.0 w.1) ∙ one)) w.2,
-    λ w. (next, steps t i next one, w),
-  )
+  walks_on t next i is one =
+      let same = behind m.structs (step_into m.structs t i) is next (sym (next_is m.structs t i) ∙ one) in
+      (λ w. sym same ∙ w, λ w. same ∙ w)
 
   pub walks_nowhere : (t : Ty) (i : Operand) (is : List Operand) → next_type m.structs t i ≡ None → Walks m t (i ∷ is)
       → ⊥
-  walks_nowhere t i is none w = none_is_some w.0 (sym none ∙ stepped t i w.0 w.1)
+  walks_nowhere t i is none w = nowhere m.structs (step_into m.structs t i) is (sym (next_is m.structs t i) ∙ none) w
 
   -- the walk from an index on
   from : (is : List Operand) (k : ℕ) (i : Operand) → k < length is → i ≡ get_or is k i
@@ -131,4 +139,4 @@ module _ (m : Module) where
       walks_nowhere t i (drop (k + 1) is) none (subst (Walks m t) (from is k i in_range same) w)
 
   pub walks_to_the_end : (t : Ty) (is : List Operand) (k : ℕ) → length is ≤ k → Walks m t (drop k is)
-  walks_to_the_end t is k past = subst (Walks m t) (sym (drop_all k is past)) tt
+  walks_to_the_end t is k past = subst (Walks m t) (sym (drop_all k is past)) refl

@@ -1,5 +1,0 @@
-use Rattle.ds_shape.proofs.Walked.{stepped}
-use Rattle.ds_shape.proofs.addresses_are_steps.Goals as goal
-
-pub returns : goal.returns
-returns c = stepped
