@@ -1,4 +1,5 @@
--- A third reading of a grammar, beside what it means and what the code computes: with all marks, and apart whether the tokens ended or one was dead.
+-- A third reading of a grammar, beside what it means and what the code computes: with all marks, and apart whether
+-- the tokens ended or one was dead.
 use Rattle.std.proofs.Common.{ℕ, zero, suc, List, [], ◌∷◌, ◌++◌, length}
 use Rattle.std.specs.Prelude.{Option, Some, None}
 use Rattle.ds_grammar.specs.Sort.{Lexeme, Sort, TypeOf}

@@ -56,4 +56,5 @@ dead_fault end (t ∷ rest) = token_fault t.kind t.bytes t.at
 
 -- the fault: that of the least breach, or where none is made that of the dead end
 abbrev pub IsFault : List Mark → ParseFault → ParseFault → Type 0
-IsFault ms at_dead_end f = ((b : Breach) × IsLeastBreach ms b × (f ≡ breach_fault b)) ⊎ (AreWithin ms × (f ≡ at_dead_end))
+IsFault ms at_dead_end f =
+    ((b : Breach) × IsLeastBreach ms b × (f ≡ breach_fault b)) ⊎ (AreWithin ms × (f ≡ at_dead_end))

@@ -1,5 +1,6 @@
--- What it means that tokens have the form of a grammar, that they are a front of it, and where the first dead end is. All are relations on whole
--- lists of tokens. The tokens that stand behind matter in one way only: a run goes on as long as it can.
+-- What it means that tokens have the form of a grammar, that they are a front of it, and where the first dead end is.
+-- All are relations on whole lists of tokens. The tokens that stand behind matter in one way only: a run goes on as
+-- long as it can.
 use Rattle.std.specs.Prelude.{◌≡◌, ℕ, zero, suc, ◌⊎◌, List, [], ◌∷◌, ◌++◌, Option, Some, None}
 use Rattle.ds_grammar.specs.Sort.{Lexeme, Sort, TypeOf}
 use Rattle.ds_grammar.specs.Grammar.{Mark, Grammar, Done, One, Then, Marked, Loop}
@@ -41,7 +42,8 @@ Run test item (suc n) s ts behind r ms = Begins (test s) (λ a us. Both (item s 
 -- a run that stops in the item behind n items
 abbrev pub RunBreaks : {S A : Type 0} → (S → Lexeme → Option A) → (S → A → Reads S) → (S → A → Breaks) → ℕ → S → Breaks
 RunBreaks test item breaks zero s ts ms = Begins (test s) (λ a us. breaks s a us ms) ts
-RunBreaks test item breaks (suc n) s ts ms = Begins (test s) (λ a us. Behind (item s a) (RunBreaks test item breaks n) us ms) ts
+RunBreaks test item breaks (suc n) s ts ms =
+    Begins (test s) (λ a us. Behind (item s a) (RunBreaks test item breaks n) us ms) ts
 
 -- tokens, with others behind them, have this form, this value and these marks
 abbrev pub Form : {a : Sort} → Grammar a → Reads (TypeOf a)
@@ -57,7 +59,8 @@ Stops (Done v) ts ms = ⊥
 Stops (One value) ts ms = (ts ≡ []) × (ms ≡ [])
 Stops (Then first next) ts ms = Stops first ts ms ⊎ Behind (Form first) (λ v. Stops (next v)) ts ms
 Stops (Marked mark rest) ts ms = (ls : List Mark) × (ms ≡ mark ∷ ls) × Stops rest ts ls
-Stops (Loop a test item s) ts ms = (n : ℕ) × RunBreaks test (λ s v. Form (item s v)) (λ s v. Stops (item s v)) n s ts ms
+Stops (Loop a test item s) ts ms =
+    (n : ℕ) × RunBreaks test (λ s v. Form (item s v)) (λ s v. Stops (item s v)) n s ts ms
 
 -- a front: tokens that stop inside the form or have it whole
 abbrev pub Front : {a : Sort} → Grammar a → Breaks
@@ -67,13 +70,14 @@ Front {a} g ts ms = Stops g ts ms ⊎ ((r : TypeOf a) × Form g ts [] r ms)
 abbrev pub IsFront : {a : Sort} → Grammar a → List Lexeme → Type 0
 IsFront g ts = (ms : List Mark) × Front g ts ms
 
--- these tokens, with the first of the others, are no front; nothing is asked where no others are left, since the end of the text is in no form
+-- these tokens, with the first of the others, are no front; nothing is asked where no others are left, since the end
+-- of the text is in no form
 abbrev pub IsDead : {a : Sort} → Grammar a → List Lexeme → List Lexeme → Type 0
 IsDead g front [] = Unit {0}
 IsDead g front (t ∷ rest) = IsFront g (front ++ t ∷ []) → ⊥
 
--- The first dead end stands behind these tokens, and these others are left from it on: each shorter list is a front. Where none is left the end
--- of the text is the dead end.
+-- The first dead end stands behind these tokens, and these others are left from it on: each shorter list is a front.
+-- Where none is left the end of the text is the dead end.
 pub record DeadEnd {a : Sort} (g : Grammar a) (ts front rest : List Lexeme) : Type 0 where
   pub whole : ts ≡ front ++ rest
   pub fronts : (us vs : List Lexeme) → front ≡ us ++ vs → IsFront g us

@@ -1,5 +1,6 @@
 -- The forms of functions, and of the whole module.
-use Rattle.std.specs.Prelude.{ℕ, ◌+◌, ◌-◌, ◌%◌, ◌^◌, min, Bool, true, false, not, nat_lt, nat_le, if◌then◌else◌, List, [], ◌∷◌, ◌++◌, take, length, Option, Some, None, is_some, option_map, codes}
+use Rattle.std.specs.Prelude.{ℕ, ◌+◌, ◌-◌, ◌%◌, ◌^◌, min, Bool, true, false, not, nat_lt, nat_le, if◌then◌else◌, List}
+use Rattle.std.specs.Prelude.{[], ◌∷◌, ◌++◌, take, length, Option, Some, None, is_some, option_map, codes}
 use Rattle.std.specs.Str.{bytes_eq}
 use Rattle.ds_lex.specs.declared.token.TokenKind.{TokenKind}
 use Rattle.ds_lex.specs.declared.token.TokenKind.TheVariants as kind
@@ -17,7 +18,8 @@ use Rattle.ds_grammar.specs.declared.item.Begin.{Begin}
 use Rattle.ds_grammar.specs.declared.item.Begin.TheVariants as begin
 use Rattle.ds_grammar.specs.declared.item.Entity.{Entity}
 use Rattle.ds_grammar.specs.declared.item.Entity.TheVariants as entity
-use Rattle.ds_grammar.specs.Sort.{Body, Params, no_value, a_number, a_name, a_scalar, a_param, a_block, a_function, a_module, a_begin, a_head, an_entity, a_body, some_params, both_of, list_of, maybe}
+use Rattle.ds_grammar.specs.Sort.{Body, Params, no_value, a_number, a_name, a_scalar, a_param, a_block, a_function}
+use Rattle.ds_grammar.specs.Sort.{a_module, a_begin, a_head, an_entity, a_body, some_params, both_of, list_of, maybe}
 use Rattle.ds_grammar.specs.Grammar.{Grammar, Done, One, Then, Marked, Loop, ◌>>=◌, marked_by, optional}
 use Rattle.ds_grammar.specs.Tokens.{word_in, scalar_words, token_name, name_of, range_mark}
 use Rattle.ds_grammar.specs.Rows.{fact, is_punct, punct, is_word, scalar, local_name, ignored_run, balanced}
@@ -65,10 +67,22 @@ next_parameter (p ∷ ps) k bytes at = if is_punct (codes ",") k bytes then Some
 abbrev pub placed_name : TokenKind → List ℕ → ℕ → Option (Name × ℕ)
 placed_name k bytes at = option_map (λ n. (n, at)) (local_name k bytes)
 
--- the parameters with one more. Behind a name that is not written stands the mark that its number takes once the parameter ends.
+-- the parameters with one more. Behind a name that is not written stands the mark that its number takes once the
+-- parameter ends.
 abbrev pub with_parameter : Params → Scalar × ℕ → Option (Name × ℕ) → Params
-with_parameter ps s (Some n) = record { params = ps.params ++ (record { name = n.0; ty = s.0 }) ∷ []; counter = counted n.0 ps.counter; pending = [] }
-with_parameter ps s None = record { params = ps.params ++ (record { name = numbered ps.counter; ty = s.0 }) ∷ []; counter = risen ps.counter; pending = taken_mark s.1 ps.counter ∷ [] }
+with_parameter ps s (Some n) = record {
+  params = ps.params
+      ++ (record { name = n.0; ty = s.0 }) ∷ [];
+  counter = counted n.0 ps.counter;
+  pending = [];
+}
+with_parameter ps s None = record {
+  params = ps.params
+      ++ (record { name = numbered ps.counter; ty = s.0 }) ∷ [];
+  counter = risen ps.counter;
+  pending = taken_mark s.1
+      ps.counter ∷ [];
+}
 
 -- the marks of the name, where it is written
 abbrev pub name_marks : Params → Option (Name × ℕ) → List Mark
@@ -79,7 +93,8 @@ name_marks ps (Some n) = written_mark n.1 n.0 ps.counter ∷ []
 unfoldable pub parameter_rest : Params → Scalar × ℕ → Grammar some_params
 parameter_rest ps s = do
   _ ← ignored_run
-  n ← optional {b = both_of a_name a_number} (both_of a_name a_number) (λ t. placed_name t.kind t.bytes t.at) (λ n. Done n)
+  n ← optional {b = both_of a_name a_number} (both_of a_name a_number) (λ t. placed_name t.kind t.bytes t.at)
+      (λ n. Done n)
   marked_by (name_marks ps n) (Done (with_parameter ps s n))
 
 -- S with its place
@@ -94,7 +109,8 @@ parameters_more ps None = marked_by ps.pending (Then placed_scalar (parameter_re
 -- P,* ) behind (
 unfoldable pub parameters : Grammar some_params
 parameters = do
-  ps ← Loop (maybe (both_of a_scalar a_number)) (λ ps t. next_parameter ps.params t.kind t.bytes t.at) parameters_more (record { params = []; counter = 0; pending = [] })
+  ps ← Loop (maybe (both_of a_scalar a_number)) (λ ps t. next_parameter ps.params t.kind t.bytes t.at) parameters_more
+      (record { params = []; counter = 0; pending = [] })
   _ ← punct ")"
   marked_by ps.pending (Done ps)
 
@@ -114,7 +130,8 @@ declared_more ps None = do
 
 -- P,* of a declaration
 unfoldable pub declared_parameters : Grammar (list_of a_param)
-declared_parameters = Loop (maybe (both_of a_scalar a_number)) (λ ps t. next_parameter ps t.kind t.bytes t.at) declared_more []
+declared_parameters =
+    Loop (maybe (both_of a_scalar a_number)) (λ ps t. next_parameter ps t.kind t.bytes t.at) declared_more []
 
 -- BLOCKS
 
@@ -122,9 +139,11 @@ declared_parameters = Loop (maybe (both_of a_scalar a_number)) (λ ps t. next_pa
 abbrev pub label_name : List ℕ → Option Name
 label_name bytes = name_of (take (length bytes - 1) bytes)
 
--- what begins a line of a body, with its place: a label where no block is open, the name of a result, or an instruction
+-- what begins a line of a body, with its place: a label where no block is open, the name of a result, or an
+-- instruction
 abbrev pub line_begin : Bool → TokenKind → List ℕ → ℕ → Option (Begin × ℕ)
-line_begin may_be_label kind.Label bytes at = if may_be_label then option_map (λ n. (begin.Label n, at)) (label_name bytes) else None
+line_begin may_be_label kind.Label bytes at =
+    if may_be_label then option_map (λ n. (begin.Label n, at)) (label_name bytes) else None
 line_begin may_be_label kind.Local bytes at = option_map (λ n. (begin.Named n, at)) (token_name bytes)
 line_begin may_be_label other bytes at = option_map (λ h. (begin.Head h, at)) (head_of false other bytes)
 
@@ -150,7 +169,12 @@ longer b i = record { name = b.name; code = b.code ++ i ∷ [] }
 -- the body with one instruction more in the block that is open, or in a new one; a terminator ends the block
 abbrev pub with_instruction : Body → ℕ → Instr → Body
 with_instruction b counter i =
-    if is_terminator i.op then record { blocks = b.blocks ++ longer (opened b.open_block b.counter) i ∷ []; open_block = None; counter = counter }
+    if is_terminator i.op then record {
+      blocks = b.blocks
+          ++ longer (opened b.open_block b.counter) i ∷ [];
+      open_block = None;
+      counter = counter;
+    }
     else record { blocks = b.blocks; open_block = Some (longer (opened b.open_block b.counter) i); counter = counter }
 
 -- an instruction whose result is not named takes the number n, where it has a result
@@ -164,22 +188,27 @@ unnamed_counter n o = if has_result o then risen n else n
 -- the rest of a line of a body
 abbrev pub line_rest : Body → Begin × ℕ → Grammar a_body
 line_rest b (begin.Label n, at) =
-    Marked (written_mark at n b.counter) (Done (record { blocks = b.blocks; open_block = Some (record { name = n; code = [] }); counter = counted n b.counter }))
+    Marked (written_mark at n b.counter) (Done (record
+    { blocks = b.blocks; open_block = Some (record { name = n; code = [] }); counter = counted n b.counter }))
 line_rest b (begin.Named n, at) =
-    marked_by (opened_marks b.open_block at b.counter) (Marked (written_mark at n (opened_counter b.open_block b.counter)) (do
+    marked_by (opened_marks b.open_block at b.counter)
+    (Marked (written_mark at n (opened_counter b.open_block b.counter)) (do
       _ ← punct "="
       h ← One {a = a_head} (λ t. head_of true t.kind t.bytes)
       o ← row_of true [] h
-      Done (with_instruction b (counted n (opened_counter b.open_block b.counter)) (record { result = Some n; op = o }))))
+      Done (with_instruction b (counted n (opened_counter b.open_block b.counter))
+          (record { result = Some n; op = o }))))
 line_rest b (begin.Head h, at) =
     marked_by (opened_marks b.open_block at b.counter) (do
       o ← row_of false (taken_mark at (opened_counter b.open_block b.counter) ∷ []) h
-      Done (with_instruction b (unnamed_counter (opened_counter b.open_block b.counter) o) (unnamed (opened_counter b.open_block b.counter) o)))
+      Done (with_instruction b (unnamed_counter (opened_counter b.open_block b.counter) o)
+          (unnamed (opened_counter b.open_block b.counter) o)))
 
 -- block block*, where names are counted from this number on
 unfoldable pub body_from : ℕ → Grammar a_body
 body_from counter =
-    Loop (both_of a_begin a_number) (λ b t. line_begin (not (is_some b.open_block)) t.kind t.bytes t.at) line_rest (record { blocks = []; open_block = None; counter = counter })
+    Loop (both_of a_begin a_number) (λ b t. line_begin (not (is_some b.open_block)) t.kind t.bytes t.at) line_rest
+    (record { blocks = []; open_block = None; counter = counter })
 
 -- the blocks of a body, of which there is one at least and each has ended
 abbrev pub ended : Option Block → List Block → Grammar (list_of a_block)
@@ -323,9 +352,11 @@ entity_rest m entity.Metadata = Then metadata_line (λ u. Done m)
 
 -- entity*
 unfoldable pub module_text : Grammar a_module
-module_text = Loop an_entity (λ m t. entity_of t.kind t.bytes) entity_rest (record { structs = []; globals = []; functions = [] })
+module_text = Loop an_entity (λ m t. entity_of t.kind t.bytes) entity_rest
+    (record { structs = []; globals = []; functions = [] })
 
--- The text spells this module: its tokens up to the end, which is the last, have the form of a module, and nothing in them is out of its bound.
+-- The text spells this module: its tokens up to the end, which is the last, have the form of a module, and nothing in
+-- them is out of its bound.
 pub record Text (text : List ℕ) (m : Module) : Type 0 where
   pub tokens : List Token
   pub lexed : Lexed text tokens

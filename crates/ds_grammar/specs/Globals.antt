@@ -1,5 +1,6 @@
 -- The forms of struct types, of globals and of what these begin with.
-use Rattle.std.specs.Prelude.{ℕ, zero, suc, Bool, true, false, ◌&&◌, ◌==◌, if◌then◌else◌, List, [], ◌∷◌, ◌++◌, drop, length, map, Option, Some, None, option_map, codes}
+use Rattle.std.specs.Prelude.{ℕ, zero, suc, Bool, true, false, ◌&&◌, ◌==◌, if◌then◌else◌, List, [], ◌∷◌, ◌++◌, drop}
+use Rattle.std.specs.Prelude.{length, map, Option, Some, None, option_map, codes}
 use Rattle.std.specs.Str.{bytes_eq}
 use Rattle.ds_lex.specs.declared.token.TokenKind.{TokenKind}
 use Rattle.ds_lex.specs.declared.token.TokenKind.TheVariants as kind
@@ -19,7 +20,8 @@ use Rattle.ds_grammar.specs.declared.fault.Bound.TheVariants.{Depth}
 use Rattle.ds_grammar.specs.declared.fault.Mark.{Mark}
 use Rattle.ds_grammar.specs.declared.item.InitHead.{InitHead}
 use Rattle.ds_grammar.specs.declared.item.InitHead.TheVariants as head
-use Rattle.ds_grammar.specs.Sort.{no_value, a_flag, a_number, a_mark, a_ty, an_init, a_struct, a_global, an_init_head, both_of, list_of, maybe}
+use Rattle.ds_grammar.specs.Sort.{no_value, a_flag, a_number, a_mark, a_ty, an_init, a_struct, a_global, an_init_head}
+use Rattle.ds_grammar.specs.Sort.{both_of, list_of, maybe}
 use Rattle.ds_grammar.specs.Grammar.{Grammar, Done, One, Then, Marked, Loop, ◌>>=◌}
 use Rattle.ds_grammar.specs.Tokens.{value_of, range_mark}
 use Rattle.ds_grammar.specs.Texts.{text_of}
@@ -31,7 +33,8 @@ use Rattle.ds_grammar.specs.Types.{array_place, array_front, arrays_from, base_t
 
 -- what a type begins with, at a place: a type with no others in it, or else the [ of an array
 abbrev pub type_begin : TokenKind → List ℕ → ℕ → Option (Option Ty × ℕ)
-type_begin k bytes at = if_none (option_map (λ place. (None, place)) (array_place k bytes at)) (option_map (λ t. (Some t, at)) (base_type true k bytes))
+type_begin k bytes at = if_none (option_map (λ place. (None, place)) (array_place k bytes at))
+    (option_map (λ t. (Some t, at)) (base_type true k bytes))
 
 -- the rest of a type
 unfoldable pub type_rest : Option Ty × ℕ → Grammar a_ty
@@ -143,10 +146,12 @@ has_fields (Some ts) = true
 
 -- what an initialiser of this type begins with, and the mark of a literal's range
 abbrev pub init_head : List StructDef → Ty → TokenKind → List ℕ → ℕ → Option (InitHead × Mark)
-init_head structs t kind.CText bytes at = if is_bytes (element_type t) then Some (head.Bytes (text_of (drop 1 bytes)), range_mark at true) else None
+init_head structs t kind.CText bytes at =
+    if is_bytes (element_type t) then Some (head.Bytes (text_of (drop 1 bytes)), range_mark at true) else None
 init_head structs t kind.Punct bytes at =
     if is_punct (codes "[") kind.Punct bytes then Some (head.Array, range_mark at true)
-    else (if is_punct (codes "{") kind.Punct bytes && has_fields (field_types structs t) then Some (head.Fields, range_mark at true) else None)
+    else (if is_punct (codes "{") kind.Punct bytes
+    && has_fields (field_types structs t) then Some (head.Fields, range_mark at true) else None)
 init_head structs t kind.Word bytes at =
     if bytes_eq bytes (codes "zeroinitializer") then Some (head.Zero, range_mark at true)
     else option_map (λ found. (head.Word found.0, found.1)) (constant t kind.Word bytes at)
@@ -156,7 +161,8 @@ init_head structs t other bytes at = option_map (λ found. (head.Word found.0, f
 abbrev pub too_deep : ℕ → Grammar an_init
 too_deep at = Marked (record { breach = record { bound = Depth; at = at }; within = false }) (One (λ t. None))
 
--- whether the next element of a list is the first one, where it begins: the type of the first, a comma before each other
+-- whether the next element of a list is the first one, where it begins: the type of the first, a comma before each
+-- other
 abbrev pub next_element : List Init → Option Ty → TokenKind → List ℕ → Option Bool
 next_element [] None k bytes = None
 next_element [] (Some t) k bytes = if is_type_front t k bytes then Some true else None
@@ -177,7 +183,8 @@ one_element inner parts is_first (Some t) = do
 
 -- (T INIT),* in square brackets, each of the one type
 unfoldable pub elements : (Ty → Grammar an_init) → Option Ty → Grammar (list_of an_init)
-elements inner t = Loop a_flag (λ parts u. next_element parts t u.kind u.bytes) (λ parts is_first. one_element inner parts is_first t) []
+elements inner t = Loop a_flag (λ parts u. next_element parts t u.kind u.bytes)
+    (λ parts is_first. one_element inner parts is_first t) []
 
 -- the type of the field behind so many
 abbrev pub field_at : List Ty → ℕ → Option Ty
@@ -188,7 +195,8 @@ field_at (t ∷ ts) (suc n) = field_at ts n
 -- (T INIT),* in curly brackets, each of the type at its place
 unfoldable pub fields : (Ty → Grammar an_init) → List Ty → Grammar (list_of an_init)
 fields inner ts =
-    Loop a_flag (λ parts u. next_element parts (field_at ts (length parts)) u.kind u.bytes) (λ parts is_first. one_element inner parts is_first (field_at ts (length parts))) []
+    Loop a_flag (λ parts u. next_element parts (field_at ts (length parts)) u.kind u.bytes)
+    (λ parts is_first. one_element inner parts is_first (field_at ts (length parts))) []
 
 -- the types of fields, where there are some
 abbrev pub or_none : Option (List Ty) → List Ty

@@ -3,18 +3,18 @@ use Rattle.std.specs.Prelude.{List, [], ◌∷◌, Option, Some, None}
 pub use Rattle.ds_grammar.specs.declared.fault.Mark.{Mark}
 use Rattle.ds_grammar.specs.Sort.{Lexeme, Sort, TypeOf, maybe}
 
--- A grammar of token lists with values of one sort.
---   Done v                  no token, and the value is v
---   One value               one token that has a value
---   Then first next         tokens of `first`, and behind them tokens of what follows by their value
---   Marked mark rest        tokens of `rest`, behind this mark of something that has a bound
---   Loop a test item state  a run: as long as the next token has a value in the present state, that token and then an item, which gives the next state
+-- A grammar of token lists with values of one sort. Done v                  no token, and the value is v One value
+-- one token that has a value Then first next         tokens of `first`, and behind them tokens of what follows by
+-- their value Marked mark rest        tokens of `rest`, behind this mark of something that has a bound Loop a test
+-- item state  a run: as long as the next token has a value in the present state, that token and then an item, which
+-- gives the next state
 pub data Grammar : Sort → Type 0 where
   Done : {a : Sort} → TypeOf a → Grammar a
   One : {a : Sort} → (Lexeme → Option (TypeOf a)) → Grammar a
   Then : {a b : Sort} → Grammar a → (TypeOf a → Grammar b) → Grammar b
   Marked : {a : Sort} → Mark → Grammar a → Grammar a
-  Loop : {s : Sort} (a : Sort) → (TypeOf s → Lexeme → Option (TypeOf a)) → (TypeOf s → TypeOf a → Grammar s) → TypeOf s → Grammar s
+  Loop : {s : Sort} (a : Sort) → (TypeOf s → Lexeme → Option (TypeOf a)) → (TypeOf s → TypeOf a → Grammar s)
+      → TypeOf s → Grammar s
 
 -- in a `do` block: one part behind the other
 infixl 10 ◌>>=◌

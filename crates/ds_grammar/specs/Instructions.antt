@@ -1,5 +1,7 @@
--- The forms of the instructions, one definition for each: a row of the table of forms reads as its `do` block, from the top.
-use Rattle.std.specs.Prelude.{ℕ, Bool, true, false, not, ◌&&◌, ◌||◌, ◌%◌, ◌^◌, nat_le, if◌then◌else◌, List, [], ◌∷◌, ◌++◌, Option, Some, None, is_some, option_map, codes}
+-- The forms of the instructions, one definition for each: a row of the table of forms reads as its `do` block, from
+-- the top.
+use Rattle.std.specs.Prelude.{ℕ, Bool, true, false, not, ◌&&◌, ◌||◌, ◌%◌, ◌^◌, nat_le, if◌then◌else◌, List, [], ◌∷◌}
+use Rattle.std.specs.Prelude.{◌++◌, Option, Some, None, is_some, option_map, codes}
 use Rattle.std.specs.Str.{bytes_eq}
 use Rattle.ds_lex.specs.declared.token.TokenKind.{TokenKind}
 use Rattle.ds_lex.specs.declared.token.TokenKind.TheVariants as kind
@@ -27,10 +29,15 @@ use Rattle.ds_grammar.specs.declared.item.Stage.{Stage}
 use Rattle.ds_grammar.specs.declared.item.Stage.TheVariants as stage
 use Rattle.ds_grammar.specs.declared.item.Head.{Head}
 use Rattle.ds_grammar.specs.declared.item.Head.TheVariants as head
-use Rattle.ds_grammar.specs.Sort.{no_value, a_flag, a_number, a_mark, a_name, a_scalar, a_value, a_cond, a_rmw_op, an_operand, an_arm, an_op, an_instr, an_ending, a_behind, a_stage, a_head, both_of, list_of, maybe}
+use Rattle.ds_grammar.specs.Sort.{no_value, a_flag, a_number, a_mark, a_name, a_scalar, a_value, a_cond, a_rmw_op}
+use Rattle.ds_grammar.specs.Sort.{an_operand, an_arm, an_op, an_instr, an_ending, a_behind, a_stage, a_head, both_of}
+use Rattle.ds_grammar.specs.Sort.{list_of, maybe}
 use Rattle.ds_grammar.specs.Grammar.{Grammar, Done, One, Then, Marked, Loop, ◌>>=◌, marked_by, optional}
-use Rattle.ds_grammar.specs.Tokens.{lookup, word_in, scalar_words, bin_op_words, token_name, range_mark, width_of, fits_type}
-use Rattle.ds_grammar.specs.Rows.{fact, is_punct, punct, is_word, word, scalar, local_name, value, result_name, run_item, run_rest, ignored_from, ignored_run, ending_item, is_metadata, ending_last, endings}
+use Rattle.ds_grammar.specs.Tokens.{lookup, word_in, scalar_words, bin_op_words, token_name, range_mark, width_of}
+use Rattle.ds_grammar.specs.Tokens.{fits_type}
+use Rattle.ds_grammar.specs.Rows.{fact, is_punct, punct, is_word, word, scalar, local_name, value, result_name}
+use Rattle.ds_grammar.specs.Rows.{run_item, run_rest, ignored_from, ignored_run, ending_item, is_metadata}
+use Rattle.ds_grammar.specs.Rows.{ending_last, endings}
 use Rattle.ds_grammar.specs.Types.{type_of}
 
 -- the first of two that is there
@@ -43,24 +50,28 @@ if_none None b = b
 -- the conversions
 abbrev pub cast_op_words : List (List ℕ × CastOp)
 cast_op_words =
-    (codes "zext", cast.Zext) ∷ (codes "sext", cast.Sext) ∷ (codes "trunc", cast.Trunc) ∷ (codes "ptrtoint", cast.PtrToInt) ∷ (codes "inttoptr", cast.IntToPtr) ∷ []
+    (codes "zext", cast.Zext) ∷ (codes "sext", cast.Sext) ∷ (codes "trunc", cast.Trunc) ∷
+    (codes "ptrtoint", cast.PtrToInt) ∷ (codes "inttoptr", cast.IntToPtr) ∷ []
 
 -- the comparisons
 abbrev pub cond_words : List (List ℕ × Cond)
 cond_words =
-    (codes "eq", cond.Eq) ∷ (codes "ne", cond.Ne) ∷ (codes "ugt", cond.Ugt) ∷ (codes "uge", cond.Uge) ∷ (codes "ult", cond.Ult) ∷ (codes "ule", cond.Ule) ∷
+    (codes "eq", cond.Eq) ∷ (codes "ne", cond.Ne) ∷ (codes "ugt", cond.Ugt) ∷ (codes "uge", cond.Uge) ∷
+    (codes "ult", cond.Ult) ∷ (codes "ule", cond.Ule) ∷
     (codes "sgt", cond.Sgt) ∷ (codes "sge", cond.Sge) ∷ (codes "slt", cond.Slt) ∷ (codes "sle", cond.Sle) ∷ []
 
 -- what an atomicrmw writes
 abbrev pub rmw_op_words : List (List ℕ × RmwOp)
 rmw_op_words =
-    (codes "xchg", rmw.Xchg) ∷ (codes "add", rmw.Add) ∷ (codes "sub", rmw.Sub) ∷ (codes "and", rmw.And) ∷ (codes "or", rmw.Or) ∷ (codes "xor", rmw.Xor) ∷
+    (codes "xchg", rmw.Xchg) ∷ (codes "add", rmw.Add) ∷ (codes "sub", rmw.Sub) ∷ (codes "and", rmw.And) ∷
+    (codes "or", rmw.Or) ∷ (codes "xor", rmw.Xor) ∷
     (codes "umax", rmw.Umax) ∷ (codes "umin", rmw.Umin) ∷ []
 
 -- the orderings of memory, which all are read as the strongest
 abbrev pub ordering_words : List (List ℕ × Unit {0})
 ordering_words =
-    (codes "unordered", tt) ∷ (codes "monotonic", tt) ∷ (codes "acquire", tt) ∷ (codes "release", tt) ∷ (codes "acq_rel", tt) ∷ (codes "seq_cst", tt) ∷ []
+    (codes "unordered", tt) ∷ (codes "monotonic", tt) ∷ (codes "acquire", tt) ∷ (codes "release", tt) ∷
+    (codes "acq_rel", tt) ∷ (codes "seq_cst", tt) ∷ []
 
 unfoldable pub condition : Grammar a_cond
 condition = One (λ t. word_in cond_words t.kind t.bytes)
@@ -137,15 +148,19 @@ are_items stage.Attrs = false
 
 -- an ending behind a comma
 abbrev pub ending_behind : TokenKind → List ℕ → Option Behind
-ending_behind k bytes = option_map (λ metadata. if metadata then behind.Metadata else behind.Align) (is_metadata k bytes)
+ending_behind k bytes =
+    option_map (λ metadata. if metadata then behind.Metadata else behind.Align) (is_metadata k bytes)
 
 -- behind a comma: the type of an operand, where one may stand, or an ending
 abbrev pub operand_behind : Bool → TokenKind → List ℕ → Option Behind
-operand_behind may_be_operand k bytes = if_none (if may_be_operand then option_map (λ s. behind.Operand s) (word_in scalar_words k bytes) else None) (ending_behind k bytes)
+operand_behind may_be_operand k bytes = if_none
+    (if may_be_operand then option_map (λ s. behind.Operand s) (word_in scalar_words k bytes) else None)
+    (ending_behind k bytes)
 
 -- behind a comma: the [ of an arm, where one may stand, or an ending
 abbrev pub arm_behind : Bool → TokenKind → List ℕ → Option Behind
-arm_behind may_be_arm k bytes = if may_be_arm && is_punct (codes "[") k bytes then Some behind.Arm else ending_behind k bytes
+arm_behind may_be_arm k bytes =
+    if may_be_arm && is_punct (codes "[") k bytes then Some behind.Arm else ending_behind k bytes
 
 -- the operands of a list behind what stands behind the next comma
 abbrev pub operand_rest : List Operand → Behind → Grammar (both_of (list_of an_operand) a_stage)
@@ -174,7 +189,8 @@ operands_more at_most_one s ending.Comma = do
 
 -- more operands and endings behind these
 unfoldable pub operands_from : Bool → Trail Operand → Grammar (both_of (list_of an_operand) a_stage)
-operands_from at_most_one trail = Loop an_ending (λ s t. ending_item (only_attrs s.1) t.kind t.bytes) (operands_more at_most_one) trail
+operands_from at_most_one trail =
+    Loop an_ending (λ s t. ending_item (only_attrs s.1) t.kind t.bytes) (operands_more at_most_one) trail
 
 -- (, S V)* and endings
 unfoldable pub operand_trail : Bool → Grammar (list_of an_operand)
@@ -335,7 +351,8 @@ argument_rest operands None = Then scalar (argument_value operands)
 
 -- more arguments behind these
 unfoldable pub arguments_from : List Operand → Grammar (list_of an_operand)
-arguments_from operands = Loop (maybe a_scalar) (λ s t. next_argument (is_empty s) t.kind t.bytes) argument_rest operands
+arguments_from operands =
+    Loop (maybe a_scalar) (λ s t. next_argument (is_empty s) t.kind t.bytes) argument_rest operands
 
 -- (S ~ V),*
 abbrev pub arguments : Grammar (list_of an_operand)
@@ -424,7 +441,8 @@ fence_row = do
 
 -- behind ret: void, or the type of a value
 abbrev pub returned : TokenKind → List ℕ → Option (Option Scalar)
-returned kind.Word bytes = if bytes_eq bytes (codes "void") then Some None else option_map (λ s. Some s) (lookup scalar_words bytes)
+returned kind.Word bytes =
+    if bytes_eq bytes (codes "void") then Some None else option_map (λ s. Some s) (lookup scalar_words bytes)
 returned other bytes = None
 
 -- the value that is returned, if one is
@@ -444,7 +462,8 @@ ret_row = do
 
 -- behind br: i1, where a condition follows, or label
 abbrev pub is_conditional : TokenKind → List ℕ → Option Bool
-is_conditional kind.Word bytes = if bytes_eq bytes (codes "i1") then Some true else if bytes_eq bytes (codes "label") then Some false else None
+is_conditional kind.Word bytes =
+    if bytes_eq bytes (codes "i1") then Some true else if bytes_eq bytes (codes "label") then Some false else None
 is_conditional other bytes = None
 
 -- the targets of a branch, behind its first word
@@ -470,7 +489,8 @@ br_row = do
 
 -- the number of a case, in its type
 abbrev pub case_of : Scalar → TokenKind → List ℕ → ℕ → Option (ℕ × Mark)
-case_of s kind.Number bytes at = option_map (λ n. (n % 2 ^ width_of s, range_mark at (fits_type s bytes n))) (number_of bytes)
+case_of s kind.Number bytes at =
+    option_map (λ n. (n % 2 ^ width_of s, range_mark at (fits_type s bytes n))) (number_of bytes)
 case_of s other bytes at = None
 
 unfoldable pub case_number : Scalar → Grammar a_number
@@ -514,13 +534,16 @@ unreachable_row = do
 -- the words that begin an instruction with a result
 abbrev pub result_words : List (List ℕ × Head)
 result_words =
-    (codes "icmp", head.Icmp) ∷ (codes "select", head.Select) ∷ (codes "alloca", head.Alloca) ∷ (codes "load", head.Load) ∷ (codes "getelementptr", head.Gep) ∷
-    (codes "call", head.Call) ∷ (codes "phi", head.Phi) ∷ (codes "atomicrmw", head.Rmw) ∷ (codes "cmpxchg", head.Cmpxchg) ∷ (codes "extractvalue", head.Extract) ∷ []
+    (codes "icmp", head.Icmp) ∷ (codes "select", head.Select) ∷ (codes "alloca", head.Alloca) ∷
+    (codes "load", head.Load) ∷ (codes "getelementptr", head.Gep) ∷
+    (codes "call", head.Call) ∷ (codes "phi", head.Phi) ∷ (codes "atomicrmw", head.Rmw) ∷
+    (codes "cmpxchg", head.Cmpxchg) ∷ (codes "extractvalue", head.Extract) ∷ []
 
 -- the words that begin an instruction without a result
 abbrev pub other_words : List (List ℕ × Head)
 other_words =
-    (codes "store", head.Store) ∷ (codes "fence", head.Fence) ∷ (codes "ret", head.Ret) ∷ (codes "br", head.Br) ∷ (codes "switch", head.Switch) ∷
+    (codes "store", head.Store) ∷ (codes "fence", head.Fence) ∷ (codes "ret", head.Ret) ∷ (codes "br", head.Br) ∷
+    (codes "switch", head.Switch) ∷
     (codes "unreachable", head.Unreachable) ∷ []
 
 -- what a word begins, where behind L = no instruction without a result stands
@@ -532,7 +555,8 @@ head_word named bytes =
 
 -- what a token begins; before a call a run of ignored words may stand
 abbrev pub head_of : Bool → TokenKind → List ℕ → Option Head
-head_of named kind.Word bytes = if_none (head_word named bytes) (option_map (λ i. head.Ignored i) (run_item false kind.Word bytes))
+head_of named kind.Word bytes =
+    if_none (head_word named bytes) (option_map (λ i. head.Ignored i) (run_item false kind.Word bytes))
 head_of named other bytes = option_map (λ i. head.Ignored i) (run_item false other bytes)
 
 -- a call behind the first item of a run of ignored words

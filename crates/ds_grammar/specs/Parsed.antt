@@ -15,8 +15,9 @@ Spells g ts v n =
     (front : List Lexeme) × (rest : List Lexeme) × (ms : List Mark)
     × DeadEnd g ts front rest × Form g front [] v ms × AreWithin ms × (n ≡ length front)
 
--- Tokens of a text that ends at `end` are refused with this fault: by the marks of the tokens before the first dead end it is that of the least
--- breach; where none is made these tokens have not the form, and it is that of the dead end.
+-- Tokens of a text that ends at `end` are refused with this fault: by the marks of the tokens before the first dead
+-- end it is that of the least breach; where none is made these tokens have not the form, and it is that of the dead
+-- end.
 unfoldable pub Refuses : {a : Sort} → Grammar a → List Lexeme → ℕ → ParseFault → Type 0
 Refuses {a} g ts end f =
     (front : List Lexeme) × (rest : List Lexeme) × (ms : List Mark) × DeadEnd g ts front rest × Front g front ms
@@ -49,8 +50,9 @@ Settles (Err f) a = (f ≡ fault.Memory) ⊎ (a ≡ Err f)
 unfoldable pub SpellWhole : {a : Sort} → Grammar a → List Lexeme → TypeOf a → Type 0
 SpellWhole g ts v = (ms : List Mark) × Form g ts [] v ms × AreWithin ms
 
--- All tokens of a text that ends at `end` are refused with this fault: by the marks of the tokens before the first dead end it is that of the
--- least breach; where none is made all tokens have not the form, and it is that of the dead end.
+-- All tokens of a text that ends at `end` are refused with this fault: by the marks of the tokens before the first
+-- dead end it is that of the least breach; where none is made all tokens have not the form, and it is that of the
+-- dead end.
 unfoldable pub RefuseWhole : {a : Sort} → Grammar a → List Lexeme → ℕ → ParseFault → Type 0
 RefuseWhole {a} g ts end f =
     (front : List Lexeme) × (rest : List Lexeme) × (ms : List Mark) × DeadEnd g ts front rest × Front g front ms

@@ -1,5 +1,7 @@
--- What is read from the tokens that are left: each run as long as it can go on, with no way back. What it means says Form.
-use Rattle.std.specs.Prelude.{ℕ, zero, suc, if◌then◌else◌, nat_lt, List, [], ◌∷◌, length, Option, Some, None, Result, Ok, Err, ◌≡◌, ◌⊎◌, option_and_then}
+-- What is read from the tokens that are left: each run as long as it can go on, with no way back. What it means says
+-- Form.
+use Rattle.std.specs.Prelude.{ℕ, zero, suc, if◌then◌else◌, nat_lt, List, [], ◌∷◌, length, Option, Some, None, Result}
+use Rattle.std.specs.Prelude.{Ok, Err, ◌≡◌, ◌⊎◌, option_and_then}
 use Rattle.ds_grammar.specs.declared.fault.Breach.{Breach}
 use Rattle.ds_grammar.specs.declared.fault.ParseFault.{ParseFault}
 use Rattle.ds_grammar.specs.declared.fault.ParseFault.TheVariants as fault
@@ -77,12 +79,14 @@ took_at None p = stopped p
 took_at (Some a) p = Ok (a, past p)
 
 -- an item by the value of its first token, and then what follows
-abbrev pub round_at : {S A : Type 0} → (A → Place → Reading S) → (S → Place → Reading S) → S → Option A → Place → Reading S
+abbrev pub round_at : {S A : Type 0} → (A → Place → Reading S) → (S → Place → Reading S) → S → Option A → Place
+    → Reading S
 round_at item next s None p = Ok (s, p)
 round_at item next s (Some a) p = then_at (item a (past p)) next
 
 -- a run of at most so many items
-abbrev pub rounds_at : {S A : Type 0} → (S → Lexeme → Option A) → (S → A → Place → Reading S) → ℕ → S → Place → Reading S
+abbrev pub rounds_at : {S A : Type 0} → (S → Lexeme → Option A) → (S → A → Place → Reading S) → ℕ → S → Place
+    → Reading S
 rounds_at test item zero s p = Ok (s, p)
 rounds_at test item (suc n) s p = round_at (item s) (rounds_at test item n) s (first_value (test s) p.left) p
 

@@ -10,9 +10,11 @@ use Rattle.ds_grammar.specs.declared.item.RunItem.TheVariants as item
 use Rattle.ds_grammar.specs.declared.item.Ending.{Ending}
 use Rattle.ds_grammar.specs.declared.item.Ending.TheVariants as ending
 use Rattle.ds_grammar.specs.Words.{is_one_of, is_word_kind}
-use Rattle.ds_grammar.specs.Sort.{TypeOf, no_value, a_flag, a_number, a_mark, a_name, a_scalar, a_value, a_run_item, an_ending, both_of, list_of, maybe}
+use Rattle.ds_grammar.specs.Sort.{TypeOf, no_value, a_flag, a_number, a_mark, a_name, a_scalar, a_value, a_run_item}
+use Rattle.ds_grammar.specs.Sort.{an_ending, both_of, list_of, maybe}
 use Rattle.ds_grammar.specs.Grammar.{Grammar, Done, One, Then, Marked, Loop, ◌>>=◌, optional}
-use Rattle.ds_grammar.specs.Tokens.{is_punct_kind, lookup, word_in, scalar_words, is_ignored_word, token_name, value_of}
+use Rattle.ds_grammar.specs.Tokens.{is_punct_kind, lookup, word_in, scalar_words, is_ignored_word, token_name}
+use Rattle.ds_grammar.specs.Tokens.{value_of}
 
 -- nothing but a fact of a token
 abbrev pub fact : Bool → Option (Unit {0})
@@ -78,7 +80,8 @@ opened_by k bytes = if is_punct_kind k then lookup closing_words bytes else None
 
 -- where a token is a bracket that closes, whether it is this one
 abbrev pub closed_by : TokenKind → List ℕ → ℕ → Option Bool
-closed_by k bytes c = if is_punct_kind k && is_one_of (codes ")" ∷ codes "]" ∷ codes "}" ∷ []) bytes then Some (bytes_eq bytes (c ∷ [])) else None
+closed_by k bytes c = if is_punct_kind k && is_one_of (codes ")" ∷ codes "]" ∷ codes "}" ∷ []) bytes then Some
+    (bytes_eq bytes (c ∷ [])) else None
 
 -- the brackets that are open behind a token, by what it closes and opens, where the innermost is to be closed by c
 abbrev pub stepped : Option Bool → Option ℕ → ℕ → List ℕ → Option (List ℕ)
@@ -109,7 +112,8 @@ balanced closer = do
 
 -- what begins an item of a run of ignored words: a group in round brackets only behind a word
 abbrev pub run_item : Bool → TokenKind → List ℕ → Option RunItem
-run_item after_word kind.Word bytes = if bytes_eq bytes (codes "align") then Some item.Align else if is_ignored_word bytes then Some item.Word else None
+run_item after_word kind.Word bytes =
+    if bytes_eq bytes (codes "align") then Some item.Align else if is_ignored_word bytes then Some item.Word else None
 run_item after_word kind.Attr bytes = Some item.Attr
 run_item after_word kind.Punct bytes = if after_word && bytes_eq bytes (codes "(") then Some item.Group else None
 run_item after_word other bytes = None

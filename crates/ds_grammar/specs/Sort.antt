@@ -34,13 +34,15 @@ pub record Lexeme : Type 0 where
   pub bytes : List ℕ
   pub at : ℕ
 
--- the parameters so far, the counter of their function's names, and the mark of a number that the last one takes where it ends
+-- the parameters so far, the counter of their function's names, and the mark of a number that the last one takes
+-- where it ends
 pub record Params : Type 0 where
   pub params : List Param
   pub counter : ℕ
   pub pending : List Mark
 
--- the body of a function so far: the blocks that have ended, the one that has not, and the counter of the function's names
+-- the body of a function so far: the blocks that have ended, the one that has not, and the counter of the function's
+-- names
 pub record Body : Type 0 where
   pub blocks : List Block
   pub open_block : Option Block
@@ -51,7 +53,8 @@ pub data Sort : Type 0 where
   no_value a_flag a_number a_token a_mark : Sort
   a_name a_scalar a_ty a_value a_cond a_rmw_op an_operand an_arm an_op an_instr : Sort
   a_run_item an_ending a_behind a_stage a_head : Sort
-  an_init a_struct a_global a_param a_block a_function a_module a_begin an_init_head an_entity some_params a_body : Sort
+  an_init a_struct a_global a_param a_block a_function a_module a_begin an_init_head an_entity some_params
+      a_body : Sort
   both_of : Sort → Sort → Sort
   list_of : Sort → Sort
   maybe : Sort → Sort

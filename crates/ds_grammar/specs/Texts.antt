@@ -1,5 +1,6 @@
 -- What the bytes of a text stand for.
-use Rattle.std.specs.Prelude.{ℕ, ◌+◌, ◌-◌, ◌*◌, Bool, nat_le, ◌==◌, ◌&&◌, ◌||◌, if◌then◌else◌, List, [], ◌∷◌, take, length}
+use Rattle.std.specs.Prelude.{ℕ, ◌+◌, ◌-◌, ◌*◌, Bool, nat_le, ◌==◌, ◌&&◌, ◌||◌, if◌then◌else◌, List, [], ◌∷◌, take}
+use Rattle.std.specs.Prelude.{length}
 use Rattle.ds_lex.specs.Bytes.{is_digit}
 
 -- a hexadecimal digit: 0 to 9, A to F or a to f
@@ -18,8 +19,8 @@ is_double b c = b == 92 && c == 92
 abbrev pub is_coded : ℕ → ℕ → ℕ → Bool
 is_coded b c d = b == 92 && is_hexadecimal c && is_hexadecimal d
 
--- What the bytes between the quotes of a text stand for, from left to right: two backslashes for one, a backslash and two hexadecimal digits
--- for that byte, and any other byte for itself.
+-- What the bytes between the quotes of a text stand for, from left to right: two backslashes for one, a backslash and
+-- two hexadecimal digits for that byte, and any other byte for itself.
 unfoldable pub text_value : List ℕ → List ℕ
 text_value [] = []
 text_value (b ∷ []) = b ∷ []

@@ -1,5 +1,6 @@
 -- What single tokens are, by their kinds and their bytes.
-use Rattle.std.specs.Prelude.{ℕ, ◌-◌, ◌%◌, ◌^◌, Bool, true, false, ◌==◌, nat_lt, nat_le, not, ◌&&◌, ◌||◌, if◌then◌else◌, List, [], ◌∷◌, Option, Some, None, option_and_then, option_map, codes}
+use Rattle.std.specs.Prelude.{ℕ, ◌-◌, ◌%◌, ◌^◌, Bool, true, false, ◌==◌, nat_lt, nat_le, not, ◌&&◌, ◌||◌}
+use Rattle.std.specs.Prelude.{if◌then◌else◌, List, [], ◌∷◌, Option, Some, None, option_and_then, option_map, codes}
 use Rattle.std.specs.List.{list_all}
 use Rattle.std.specs.Str.{bytes_eq}
 use Rattle.ds_lex.specs.declared.token.TokenKind.{TokenKind}
@@ -13,7 +14,8 @@ use Rattle.ds_ast.specs.declared.ty.Scalar.TheVariants.{I1, I8, I16, I32, I64, P
 use Rattle.ds_ast.specs.declared.value.Value.{Value}
 use Rattle.ds_ast.specs.declared.value.Value.TheVariants as value
 use Rattle.ds_ast.specs.declared.words.BinOp.{BinOp}
-use Rattle.ds_ast.specs.declared.words.BinOp.TheVariants.{Add, Sub, Mul, And, Or, Xor, Shl, Lshr, Ashr, Udiv, Sdiv, Urem, Srem}
+use Rattle.ds_ast.specs.declared.words.BinOp.TheVariants.{Add, Sub, Mul, And, Or, Xor, Shl, Lshr, Ashr, Udiv, Sdiv}
+use Rattle.ds_ast.specs.declared.words.BinOp.TheVariants.{Urem, Srem}
 use Rattle.ds_grammar.specs.declared.fault.Bound.TheVariants.{Range}
 use Rattle.ds_grammar.specs.declared.fault.Mark.{Mark}
 use Rattle.ds_grammar.specs.Texts.{text_of}
@@ -35,21 +37,27 @@ word_in table k bytes = if is_word_kind k then lookup table bytes else None
 
 -- the types that one register holds
 abbrev pub scalar_words : List (List ℕ × Scalar)
-scalar_words = (codes "i1", I1) ∷ (codes "i8", I8) ∷ (codes "i16", I16) ∷ (codes "i32", I32) ∷ (codes "i64", I64) ∷ (codes "ptr", Ptr) ∷ []
+scalar_words = (codes "i1", I1) ∷ (codes "i8", I8) ∷ (codes "i16", I16) ∷ (codes "i32", I32) ∷ (codes "i64", I64) ∷
+    (codes "ptr", Ptr) ∷ []
 
 -- the operations on two integers
 abbrev pub bin_op_words : List (List ℕ × BinOp)
 bin_op_words =
-    (codes "add", Add) ∷ (codes "sub", Sub) ∷ (codes "mul", Mul) ∷ (codes "and", And) ∷ (codes "or", Or) ∷ (codes "xor", Xor) ∷ (codes "shl", Shl) ∷
-    (codes "lshr", Lshr) ∷ (codes "ashr", Ashr) ∷ (codes "udiv", Udiv) ∷ (codes "sdiv", Sdiv) ∷ (codes "urem", Urem) ∷ (codes "srem", Srem) ∷ []
+    (codes "add", Add) ∷ (codes "sub", Sub) ∷ (codes "mul", Mul) ∷ (codes "and", And) ∷ (codes "or", Or) ∷
+    (codes "xor", Xor) ∷ (codes "shl", Shl) ∷
+    (codes "lshr", Lshr) ∷ (codes "ashr", Ashr) ∷ (codes "udiv", Udiv) ∷ (codes "sdiv", Sdiv) ∷ (codes "urem", Urem) ∷
+    (codes "srem", Srem) ∷ []
 
 -- the words that the forms of a module spell, which are never ignored
 unfoldable pub text_words : List (List ℕ)
 text_words = spelled (
-    "source_filename" ∷ "target" ∷ "datalayout" ∷ "triple" ∷ "type" ∷ "global" ∷ "constant" ∷ "declare" ∷ "define" ∷ "attributes" ∷ "distinct" ∷ "void" ∷ "x" ∷
-    "i1" ∷ "i8" ∷ "i16" ∷ "i32" ∷ "i64" ∷ "ptr" ∷ "true" ∷ "false" ∷ "null" ∷ "undef" ∷ "label" ∷ "zeroinitializer" ∷ "align" ∷ "atomic" ∷ "to" ∷
+    "source_filename" ∷ "target" ∷ "datalayout" ∷ "triple" ∷ "type" ∷ "global" ∷ "constant" ∷ "declare" ∷ "define" ∷
+    "attributes" ∷ "distinct" ∷ "void" ∷ "x" ∷
+    "i1" ∷ "i8" ∷ "i16" ∷ "i32" ∷ "i64" ∷ "ptr" ∷ "true" ∷ "false" ∷ "null" ∷ "undef" ∷ "label" ∷ "zeroinitializer" ∷
+    "align" ∷ "atomic" ∷ "to" ∷
     "unordered" ∷ "monotonic" ∷ "acquire" ∷ "release" ∷ "acq_rel" ∷ "seq_cst" ∷
-    "icmp" ∷ "select" ∷ "alloca" ∷ "load" ∷ "store" ∷ "getelementptr" ∷ "call" ∷ "phi" ∷ "atomicrmw" ∷ "cmpxchg" ∷ "extractvalue" ∷ "fence" ∷
+    "icmp" ∷ "select" ∷ "alloca" ∷ "load" ∷ "store" ∷ "getelementptr" ∷ "call" ∷ "phi" ∷ "atomicrmw" ∷ "cmpxchg" ∷
+    "extractvalue" ∷ "fence" ∷
     "ret" ∷ "br" ∷ "switch" ∷ "unreachable" ∷
     "add" ∷ "sub" ∷ "mul" ∷ "and" ∷ "or" ∷ "xor" ∷ "shl" ∷ "lshr" ∷ "ashr" ∷ "udiv" ∷ "sdiv" ∷ "urem" ∷ "srem" ∷
     "zext" ∷ "sext" ∷ "trunc" ∷ "ptrtoint" ∷ "inttoptr" ∷
@@ -64,10 +72,12 @@ abbrev pub is_text : List ℕ → Bool
 is_text [] = false
 is_text (b ∷ bs) = b == 34
 
--- the name that stands behind % or @: digits are a number below 2 ^ 32, a text is what it stands for, and other bytes are the name itself
+-- the name that stands behind % or @: digits are a number below 2 ^ 32, a text is what it stands for, and other bytes
+-- are the name itself
 unfoldable pub name_of : List ℕ → Option Name
 name_of bytes =
-    if list_all is_digit bytes then option_and_then (λ n. if nat_lt n (2 ^ 32) then Some (name.Number n) else None) (number_of bytes)
+    if list_all is_digit bytes then option_and_then (λ n. if nat_lt n (2 ^ 32) then Some (name.Number n) else None)
+    (number_of bytes)
     else (if is_text bytes then Some (name.Text (text_of bytes)) else Some (name.Text bytes))
 
 -- the name of a token, whose first byte is % or @
@@ -99,7 +109,8 @@ abbrev pub is_negative : List ℕ → Bool
 is_negative [] = false
 is_negative (b ∷ bs) = b == 45
 
--- a number, given modulo 2 ^ 64, lies from -2 ^ (w - 1) to 2 ^ w - 1; behind a minus sign it is 0 or at least 2 ^ 64 - 2 ^ (w - 1)
+-- a number, given modulo 2 ^ 64, lies from -2 ^ (w - 1) to 2 ^ w - 1; behind a minus sign it is 0 or at least 2 ^ 64
+-- - 2 ^ (w - 1)
 unfoldable pub fits_width : ℕ → Bool → ℕ → Bool
 fits_width w true n = n == 0 || nat_le (2 ^ 64 - 2 ^ (w - 1)) n
 fits_width w false n = nat_lt n (2 ^ w)
@@ -119,7 +130,8 @@ literal s bytes at n = (value.Int (n % 2 ^ width_of s), range_mark at (fits_type
 -- the words that are values, where true and false are for truth values alone
 abbrev pub value_words : Scalar → List (List ℕ × (Value × Bool))
 value_words s =
-    (codes "true", (value.Int 1, is_truth s)) ∷ (codes "false", (value.Int 0, is_truth s)) ∷ (codes "null", (value.Null, true)) ∷ (codes "undef", (value.Undef, true)) ∷ []
+    (codes "true", (value.Int 1, is_truth s)) ∷ (codes "false", (value.Int 0, is_truth s)) ∷
+    (codes "null", (value.Null, true)) ∷ (codes "undef", (value.Undef, true)) ∷ []
 
 -- a value and whether it is in its range, at a place
 abbrev pub with_range : ℕ → Value × Bool → Value × Mark

@@ -1,5 +1,6 @@
 -- The form of a type.
-use Rattle.std.specs.Prelude.{ℕ, Bool, true, false, not, ◌&&◌, ◌||◌, ◌^◌, ◌%◌, nat_lt, nat_le, if◌then◌else◌, List, [], ◌∷◌, length, Option, Some, None, option_map, codes}
+use Rattle.std.specs.Prelude.{ℕ, Bool, true, false, not, ◌&&◌, ◌||◌, ◌^◌, ◌%◌, nat_lt, nat_le, if◌then◌else◌, List}
+use Rattle.std.specs.Prelude.{[], ◌∷◌, length, Option, Some, None, option_map, codes}
 use Rattle.std.specs.Str.{bytes_eq}
 use Rattle.ds_lex.specs.declared.token.TokenKind.{TokenKind}
 use Rattle.ds_lex.specs.declared.token.TokenKind.TheVariants as kind
@@ -69,7 +70,8 @@ arrays_from marks opened = Loop a_number (λ s t. array_place t.kind t.bytes t.a
 -- the type that a word is, where void may or may not stand
 abbrev pub word_type : Bool → List ℕ → Option Ty
 word_type may_be_void bytes =
-    if bytes_eq bytes (codes "void") then (if may_be_void then Some ty.Void else None) else option_map (λ s. ty.One s) (lookup scalar_words bytes)
+    if bytes_eq bytes (codes "void") then (if may_be_void then Some ty.Void else None) else option_map (λ s. ty.One s)
+    (lookup scalar_words bytes)
 
 -- the type inside all arrays
 abbrev pub base_type : Bool → TokenKind → List ℕ → Option Ty
@@ -102,7 +104,8 @@ all_arrays_closed (n ∷ ns, t) = One (λ t. None)
 
 -- any number of ], each for one of the arrays around the type
 unfoldable pub array_ends : Bool → Closing → Grammar (both_of (list_of a_number) a_ty)
-array_ends too_deep closing = Loop no_value (λ s t. closes s.0 t.kind t.bytes) (λ s u. Done (closed too_deep s)) closing
+array_ends too_deep closing =
+    Loop no_value (λ s t. closes s.0 t.kind t.bytes) (λ s u. Done (closed too_deep s)) closing
 
 -- a ] for each of these arrays around the type
 unfoldable pub closed_type : Arrays → Ty → Grammar a_ty
@@ -110,8 +113,8 @@ closed_type opened base = do
   closing ← array_ends (nat_lt 32 (length opened.1)) (opened.1, base)
   all_arrays_closed closing
 
--- void, a type of a register, [ N x T ], or the name of a struct; void alone may be forbidden. Where it is not void its
--- first token takes a number, with these marks: those of a call's result that has no name. Else there are none.
+-- void, a type of a register, [ N x T ], or the name of a struct; void alone may be forbidden. Where it is not void
+-- its first token takes a number, with these marks: those of a call's result that has no name. Else there are none.
 unfoldable pub type_of : Bool → List Mark → Grammar a_ty
 type_of may_be_void marks = do
   opened ← arrays_from marks (0, [])

@@ -1,4 +1,5 @@
--- The words that are refused: those of the LLVM Language Reference that would change what a module means, and that are not read here.
+-- The words that are refused: those of the LLVM Language Reference that would change what a module means, and that
+-- are not read here.
 use Rattle.std.specs.Prelude.{ℕ, Bool, true, false, ◌==◌, not, ◌&&◌, ◌||◌, List, [], ◌∷◌, map, codes}
 use Rattle.std.specs.List.{list_all, list_any}
 use Rattle.std.specs.Str.{bytes_eq}
@@ -32,10 +33,14 @@ is_integer_word other = false
 -- the words that are refused, but for integer types
 unfoldable pub refused_words : List (List ℕ)
 refused_words = spelled (
-    "byval" ∷ "inalloca" ∷ "preallocated" ∷ "half" ∷ "bfloat" ∷ "float" ∷ "double" ∷ "fp128" ∷ "x86_fp80" ∷ "metadata" ∷ "token" ∷ "invoke" ∷ "resume" ∷
-    "landingpad" ∷ "callbr" ∷ "indirectbr" ∷ "asm" ∷ "addrspace" ∷ "thread_local" ∷ "extractelement" ∷ "insertelement" ∷ "shufflevector" ∷ "insertvalue" ∷
-    "fadd" ∷ "fsub" ∷ "fmul" ∷ "fdiv" ∷ "frem" ∷ "fneg" ∷ "fcmp" ∷ "fptrunc" ∷ "fpext" ∷ "fptoui" ∷ "fptosi" ∷ "uitofp" ∷ "sitofp" ∷ "va_arg" ∷ "freeze" ∷
-    "bitcast" ∷ "addrspacecast" ∷ "blockaddress" ∷ "nand" ∷ "max" ∷ "min" ∷ "opaque" ∷ "comdat" ∷ "section" ∷ "personality" ∷ "syncscope" ∷ "poison" ∷ "..." ∷ [])
+    "byval" ∷ "inalloca" ∷ "preallocated" ∷ "half" ∷ "bfloat" ∷ "float" ∷ "double" ∷ "fp128" ∷ "x86_fp80" ∷ "metadata"
+    ∷ "token" ∷ "invoke" ∷ "resume" ∷
+    "landingpad" ∷ "callbr" ∷ "indirectbr" ∷ "asm" ∷ "addrspace" ∷ "thread_local" ∷ "extractelement" ∷ "insertelement"
+    ∷ "shufflevector" ∷ "insertvalue" ∷
+    "fadd" ∷ "fsub" ∷ "fmul" ∷ "fdiv" ∷ "frem" ∷ "fneg" ∷ "fcmp" ∷ "fptrunc" ∷ "fpext" ∷ "fptoui" ∷ "fptosi" ∷
+    "uitofp" ∷ "sitofp" ∷ "va_arg" ∷ "freeze" ∷
+    "bitcast" ∷ "addrspacecast" ∷ "blockaddress" ∷ "nand" ∷ "max" ∷ "min" ∷ "opaque" ∷ "comdat" ∷ "section" ∷
+    "personality" ∷ "syncscope" ∷ "poison" ∷ "..." ∷ [])
 
 -- bytes are a word that is refused
 unfoldable pub is_refused_word : List ℕ → Bool

@@ -3,7 +3,12 @@
 //! A caller calls the function and uses what it ensures. The laws speak of every grammar.
 #![tactic(auto)]
 
-ghost use Rattle.ds_grammar.specs.Laws.{FormsAreUnique, MarksAreUnique, PrefixesAreFronts, DeadEndsExist, DeadEndsAreUnique, ReadingIsExact, FormsAreRead, RunsTakeItems, RunsEnd, RunsStop, OptionalsAreRead, MarksAreRead, ReadingsTakeTokens, ItemsTakeTokens, AnswersAreExact, SpelledIsAnswered, RefusedIsAnswered, TokensLieInside, WholeAnswersAreExact, WholesAreAnswered, WholesAreNotRefused, RefusedWholesAreAnswered};
+ghost use Rattle.ds_grammar.specs.Laws.{FormsAreUnique, MarksAreUnique, PrefixesAreFronts, DeadEndsExist};
+ghost use Rattle.ds_grammar.specs.Laws.{DeadEndsAreUnique, ReadingIsExact, FormsAreRead, RunsTakeItems, RunsEnd};
+ghost use Rattle.ds_grammar.specs.Laws.{RunsStop, OptionalsAreRead, MarksAreRead, ReadingsTakeTokens};
+ghost use Rattle.ds_grammar.specs.Laws.{ItemsTakeTokens, AnswersAreExact, SpelledIsAnswered, RefusedIsAnswered};
+ghost use Rattle.ds_grammar.specs.Laws.{TokensLieInside, WholeAnswersAreExact, WholesAreAnswered};
+ghost use Rattle.ds_grammar.specs.Laws.{WholesAreNotRefused, RefusedWholesAreAnswered};
 
 mod fault;
 mod item;
@@ -46,7 +51,8 @@ pub fn forms_are_read()
     ensures { FormsAreRead }
 {}
 
-/// A run takes an item and goes on from the state that it gives, ends where no item begins, and stops where an item stops.
+/// A run takes an item and goes on from the state that it gives, ends where no item begins, and stops where an item
+/// stops.
 pub fn runs_go_on()
     ensures items { RunsTakeItems }
     ensures end { RunsEnd }
@@ -80,7 +86,8 @@ pub fn answers_are_exact()
     ensures fault { RefusedIsAnswered }
 {}
 
-/// The answer to what is read of a whole text is what its tokens say, where a breach is a fault and so is a token that is left.
+/// The answer to what is read of a whole text is what its tokens say, where a breach is a fault and so is a token
+/// that is left.
 pub fn whole_answers_are_exact()
     ensures exact { WholeAnswersAreExact }
     ensures spelled { WholesAreAnswered }

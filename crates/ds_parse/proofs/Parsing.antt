@@ -22,19 +22,22 @@ use Rattle.ds_grammar.specs.Functions.{module_text, Text}
 use Rattle.ds_parse.specs.Faults.{IsRefused, HasParseFault, parse_fault}
 
 -- the tokens of a text spell the module of the text
-pub text_of : (text : List ℕ) (ts : List Token) (m : Module) → Lexed text ts → SpellWhole module_text (lexemes_from text ts 0) m → Text text m
+pub text_of : (text : List ℕ) (ts : List Token) (m : Module) → Lexed text ts
+    → SpellWhole module_text (lexemes_from text ts 0) m → Text text m
 unfolding SpellWhole
 text_of text ts m l h = record { tokens = ts; lexed = l; marks = h.0; form = h.1; within = h.2 }
 
 -- the module of a text is spelled by its tokens
-pub spelled_by : TokensAreUnique → (text : List ℕ) (ts : List Token) (m : Module) → Lexed text ts → Text text m → SpellWhole module_text (lexemes_from text ts 0) m
+pub spelled_by : TokensAreUnique → (text : List ℕ) (ts : List Token) (m : Module) → Lexed text ts → Text text m
+    → SpellWhole module_text (lexemes_from text ts 0) m
 unfolding SpellWhole
 spelled_by unique text ts m l t =
     let P : List Token → Type 0 = λ us. SpellWhole module_text (lexemes_from text us 0) m in
     subst P (unique text t.tokens ts t.lexed l) (t.marks, t.form, t.within)
 
 -- a fault of all tokens is one of the text
-refused_as : (text : List ℕ) (ts : List Token) (f : ParseFault) → Lexed text ts → RefuseWhole module_text (lexemes_from text ts 0) (length text) f → IsRefused text f
+refused_as : (text : List ℕ) (ts : List Token) (f : ParseFault) → Lexed text ts
+    → RefuseWhole module_text (lexemes_from text ts 0) (length text) f → IsRefused text f
 refused_as text ts f l h = record { tokens = ts; lexed = l; refused = h }
 
 -- no tokens are refused with a lexical fault or for want of memory
@@ -58,7 +61,8 @@ dead_is : (end : ℕ) (ts : List Lexeme) → IsOfTokens (dead_fault end ts)
 dead_is end [] = tt
 dead_is end (t ∷ ts) = token_is (is_refused_token t.kind t.bytes) t.at
 
-of_tokens : (text : List ℕ) (ts : List Token) (f : ParseFault) → RefuseWhole module_text (lexemes_from text ts 0) (length text) f → IsOfTokens f
+of_tokens : (text : List ℕ) (ts : List Token) (f : ParseFault)
+    → RefuseWhole module_text (lexemes_from text ts 0) (length text) f → IsOfTokens f
 unfolding RefuseWhole
 of_tokens text ts f (front, rest, ms, d, h, inl (b, least, e)) = subst IsOfTokens (sym e) (bound_is b.bound b.at)
 of_tokens text ts f (front, rest, ms, d, h, inr (w, none, e)) = subst IsOfTokens (sym e) (dead_is (length text) rest)
@@ -71,19 +75,22 @@ by_fault text (fault.Range at) h r = r
 by_fault text (fault.DeepType at) h r = r
 by_fault text fault.Memory h r = absurd h
 
-pub parse_fault_of : (text : List ℕ) (ts : List Token) (f : ParseFault) → Lexed text ts → RefuseWhole module_text (lexemes_from text ts 0) (length text) f → HasParseFault text f
+pub parse_fault_of : (text : List ℕ) (ts : List Token) (f : ParseFault) → Lexed text ts
+    → RefuseWhole module_text (lexemes_from text ts 0) (length text) f → HasParseFault text f
 parse_fault_of text ts f l h = by_fault text f (of_tokens text ts f h) (refused_as text ts f l h)
 
 -- THE CLAUSES
 
 -- the module of the tokens is that of the text
-pub is_text : (text : List ℕ) (ts : List Token) (r : Result Module ParseFault) → Lexed text ts → IfOk r (λ m. SpellWhole module_text (lexemes_from text ts 0) m) → IfOk r (λ m. Text text m)
+pub is_text : (text : List ℕ) (ts : List Token) (r : Result Module ParseFault) → Lexed text ts
+    → IfOk r (λ m. SpellWhole module_text (lexemes_from text ts 0) m) → IfOk r (λ m. Text text m)
 is_text text ts (Ok m) l h = text_of text ts m l h
 is_text text ts (Err f) l h = tt
 
 -- the fault of the tokens is one of the text
 pub has_fault : (text : List ℕ) (ts : List Token) (r : Result Module ParseFault) → Lexed text ts
-    → IfErr r (λ f. (f ≡ fault.Memory) ⊎ RefuseWhole module_text (lexemes_from text ts 0) (length text) f) → IfErr r (λ f. (f ≡ fault.Memory) ⊎ HasParseFault text f)
+    → IfErr r (λ f. (f ≡ fault.Memory) ⊎ RefuseWhole module_text (lexemes_from text ts 0) (length text) f)
+    → IfErr r (λ f. (f ≡ fault.Memory) ⊎ HasParseFault text f)
 has_fault text ts (Ok m) l h = tt
 has_fault text ts (Err f) l (inl m) = inl m
 has_fault text ts (Err f) l (inr h) = inr (parse_fault_of text ts f l h)
@@ -95,7 +102,8 @@ refused_by unique text ts f l r =
     let P : List Token → Type 0 = λ us. RefuseWhole module_text (lexemes_from text us 0) (length text) f in
     subst P (unique text r.tokens ts r.lexed l) r.refused
 
-pub only_refused : TokensAreUnique → TokensOrFault → (text : List ℕ) (ts : List Token) (f : ParseFault) → Lexed text ts → HasParseFault text f
+pub only_refused : TokensAreUnique → TokensOrFault → (text : List ℕ) (ts : List Token) (f : ParseFault)
+    → Lexed text ts → HasParseFault text f
     → RefuseWhole module_text (lexemes_from text ts 0) (length text) f
 only_refused unique either text ts (fault.Lex f) l h = absurd (either text ts f l h)
 only_refused unique either text ts (fault.Expected at) l h = refused_by unique text ts (fault.Expected at) l h
@@ -125,7 +133,8 @@ lexical_is g lex.Memory e = inr (ap (λ x. Err (parse_fault x)) e)
 
 module _ (text : List ℕ) (g : LexFault) (only : (ts : List Token) → Lexed text ts → g ≡ lex.Memory)
     (only_fault : (f : LexFault) → HasFault text f → IsTold {A = List Token} (Err g) f lex.Memory) where
-  lexical_told : (f : LexFault) → IsTold {A = List Token} (Err g) f lex.Memory → IsTold {A = Module} (Err (parse_fault g)) (fault.Lex f) fault.Memory
+  lexical_told : (f : LexFault) → IsTold {A = List Token} (Err g) f lex.Memory
+      → IsTold {A = Module} (Err (parse_fault g)) (fault.Lex f) fault.Memory
   lexical_told f (inl e) = lexical_is g f (err_same g f e)
   lexical_told f (inr e) = no_memory g (fault.Lex f) (err_same g lex.Memory e)
 
@@ -142,7 +151,8 @@ module _ (text : List ℕ) (g : LexFault) (only : (ts : List Token) → Lexed te
   only_lexical fault.Memory h = absurd h
 
 -- the fault of the lexer is told, or there was not enough memory
-pub told : (text : List ℕ) (f : LexFault) → (f ≡ lex.Memory) ⊎ HasFault text f → (parse_fault f ≡ fault.Memory) ⊎ HasParseFault text (parse_fault f)
+pub told : (text : List ℕ) (f : LexFault) → (f ≡ lex.Memory) ⊎ HasFault text f → (parse_fault f ≡ fault.Memory)
+    ⊎ HasParseFault text (parse_fault f)
 told text (BadByte at) (inl m) = absurd (cc m)
 told text (BadName at) (inl m) = absurd (cc m)
 told text (BadNumber at) (inl m) = absurd (cc m)

@@ -13,6 +13,8 @@ use Rattle.ds_grammar.specs.Functions.{entity_of, entity_rest}
 abbrev pub module_from : Module → Grammar a_module
 module_from m = Loop an_entity (λ m t. entity_of t.kind t.bytes) entity_rest m
 
-pub entities_more : RunsTakeItems → (m next : Module) (e : Entity) (p q : Place) → first_value (λ t. entity_of t.kind t.bytes) p.left ≡ Some e
+pub entities_more : RunsTakeItems → (m next : Module) (e : Entity) (p q : Place)
+    → first_value (λ t. entity_of t.kind t.bytes) p.left ≡ Some e
     → value_at (entity_rest m e) (past p) ≡ Ok (next, q) → value_at (module_from m) p ≡ value_at (module_from next) q
-entities_more law m next e p q first rest = law a_module an_entity (λ m t. entity_of t.kind t.bytes) entity_rest m next e p q first rest
+entities_more law m next e p q first rest =
+    law a_module an_entity (λ m t. entity_of t.kind t.bytes) entity_rest m next e p q first rest

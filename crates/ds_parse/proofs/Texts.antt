@@ -19,11 +19,14 @@ use Rattle.ds_parse.proofs.Parsing.{spelled_by}
 pub one_module : TokensAreUnique → FormsAreUnique → TextsSpellOneModule
 one_module tokens forms text m n t u =
     let P : List Token → Type 0 = λ ts. Form module_text (lexemes_from text ts 0) [] m t.marks in
-    (forms a_module module_text (lexemes_from text u.tokens 0) _ m n t.marks u.marks (subst P (tokens text t.tokens u.tokens t.lexed u.lexed) t.form) u.form).0
+    (forms a_module module_text (lexemes_from text u.tokens 0) _ m n t.marks u.marks
+    (subst P (tokens text t.tokens u.tokens t.lexed u.lexed) t.form) u.form).0
 
 -- tokens that are refused are not those of a module
-not_refused : TokensAreUnique → WholesAreNotRefused → (text : List ℕ) (m : Module) (f : ParseFault) → Text text m → IsRefused text f → ⊥
-not_refused tokens law text m f t r = law a_module module_text (lexemes_from text r.tokens 0) (length text) m f (spelled_by tokens text r.tokens m r.lexed t) r.refused
+not_refused : TokensAreUnique → WholesAreNotRefused → (text : List ℕ) (m : Module) (f : ParseFault) → Text text m
+    → IsRefused text f → ⊥
+not_refused tokens law text m f t r = law a_module module_text (lexemes_from text r.tokens 0) (length text) m f
+    (spelled_by tokens text r.tokens m r.lexed t) r.refused
 
 pub no_fault : TokensOrFault → TokensAreUnique → WholesAreNotRefused → TextsAreNotRefused
 no_fault either tokens law text m (fault.Lex f) t h = either text t.tokens f t.lexed h

@@ -18,8 +18,8 @@ pub record IsRefused (text : List ℕ) (f : ParseFault) : Type 0 where
   pub lexed : Lexed text tokens
   pub refused : RefuseWhole module_text (lexemes_from text tokens 0) (length text) f
 
--- The fault of a text that spells no module: a lexical fault anywhere comes first; where there is none, it is that of the tokens. Want of memory is
--- no fault of a text.
+-- The fault of a text that spells no module: a lexical fault anywhere comes first; where there is none, it is that of
+-- the tokens. Want of memory is no fault of a text.
 abbrev pub HasParseFault : List ℕ → ParseFault → Type 0
 HasParseFault text (fault.Lex f) = HasFault text f
 HasParseFault text (fault.Expected at) = IsRefused text (fault.Expected at)

@@ -17,18 +17,22 @@ use std::alloc::Global;
 
 /// The module that a text of at most 8,388,608 bytes spells.
 ///
-/// `Ok` comes exactly where the text spells a module within its bounds. `Lex` names the text's lexical fault, which comes first. Else the fault is
-/// that of the tokens before the first dead end, which is the first token such that no module begins with the tokens up to it: the
-/// least place decides. `Expected` and `Unsupported` stand at the dead end, `Range` at a number that is out of its range, `DeepType` at a type
-/// or an initialiser that nests too deep. `Memory` comes where there is not enough memory.
+/// `Ok` comes exactly where the text spells a module within its bounds. `Lex` names the text's lexical fault, which
+/// comes first. Else the fault is
+/// that of the tokens before the first dead end, which is the first token such that no module begins with the tokens
+/// up to it: the least place decides. `Expected` and `Unsupported` stand at the dead end, `Range` at a number that is
+/// out of its range, `DeepType` at a type or an initialiser that nests too deep. `Memory` comes where there is not
+/// enough memory.
 pub fn parse(alloc: Global, text: &[u8]) -> Result<Module, ParseFault>
     requires { length text.now ≤ 8388608 }
     ensures spelled { IfOk result (λ m. Text text.now m) }
     // A text spells one module at most, and each text that spells one is read, if there is memory.
-    ensures only { (m : Module) → Text text.now m → MatchResult result (λ found. found ≡ m) (λ f. f ≡ ParseFault.Memory) }
+    ensures only { (m : Module) → Text text.now m
+        → MatchResult result (λ found. found ≡ m) (λ f. f ≡ ParseFault.Memory) }
     ensures refused { IfErr result (λ f. (f ≡ ParseFault.Memory) ⊎ HasParseFault text.now f) }
     // A text has one fault at most, and it is told, if there is memory.
-    ensures only_fault { (fault : ParseFault) → HasParseFault text.now fault → (result ≡ Err fault) ⊎ (result ≡ Err ParseFault.Memory) }
+    ensures only_fault { (fault : ParseFault) → HasParseFault text.now fault → (result ≡ Err fault)
+        ⊎ (result ≡ Err ParseFault.Memory) }
 {
     tokens_are_unique();
     tokens_or_fault();
@@ -56,9 +60,13 @@ fn module_of(alloc: Global, text: &[u8], tokens: &Tokens) -> Result<Module, Pars
     requires small { length text.now ≤ 8388608 }
     requires lexed { Lexed text.now tokens.now }
     ensures spelled { IfOk result (λ m. SpellWhole module_text (lexemes_from text.now tokens.now 0) m) }
-    ensures only { (m : Module) → SpellWhole module_text (lexemes_from text.now tokens.now 0) m → MatchResult result (λ found. found ≡ m) (λ f. f ≡ ParseFault.Memory) }
-    ensures refused { IfErr result (λ f. (f ≡ ParseFault.Memory) ⊎ RefuseWhole module_text (lexemes_from text.now tokens.now 0) (length text.now) f) }
-    ensures only_fault { (f : ParseFault) → RefuseWhole module_text (lexemes_from text.now tokens.now 0) (length text.now) f →
+    ensures only { (m : Module) → SpellWhole module_text (lexemes_from text.now tokens.now 0) m
+        → MatchResult result (λ found. found ≡ m) (λ f. f ≡ ParseFault.Memory) }
+    ensures refused { IfErr result
+        (λ f. (f ≡ ParseFault.Memory)
+        ⊎ RefuseWhole module_text (lexemes_from text.now tokens.now 0) (length text.now) f) }
+    ensures only_fault { (f : ParseFault)
+        → RefuseWhole module_text (lexemes_from text.now tokens.now 0) (length text.now) f →
         (result ≡ Err f) ⊎ (result ≡ Err ParseFault.Memory) }
 {
     tokens_lie_inside();

@@ -46,7 +46,9 @@ impl Parts {
 
     /// One more struct type.
     pub fn with_struct(self, line: StructDef) -> Result<Parts, AllocError>
-        ensures { IfOk result (λ parts. parts ≡ record { structs = self.structs ++ line ∷ []; globals = self.globals; functions = self.functions }) }
+        ensures { IfOk result
+            (λ parts. parts ≡ record
+            { structs = self.structs ++ line ∷ []; globals = self.globals; functions = self.functions }) }
     {
         let mut parts = self;
         parts.structs.push(line)?;
@@ -55,7 +57,9 @@ impl Parts {
 
     /// One more global.
     pub fn with_global(self, line: GlobalDef) -> Result<Parts, AllocError>
-        ensures { IfOk result (λ parts. parts ≡ record { structs = self.structs; globals = self.globals ++ line ∷ []; functions = self.functions }) }
+        ensures { IfOk result
+            (λ parts. parts ≡ record
+            { structs = self.structs; globals = self.globals ++ line ∷ []; functions = self.functions }) }
     {
         let mut parts = self;
         parts.globals.push(line)?;
@@ -64,7 +68,9 @@ impl Parts {
 
     /// One more function.
     pub fn with_function(self, function: Function) -> Result<Parts, AllocError>
-        ensures { IfOk result (λ parts. parts ≡ record { structs = self.structs; globals = self.globals; functions = self.functions ++ function ∷ [] }) }
+        ensures { IfOk result
+            (λ parts. parts ≡ record
+            { structs = self.structs; globals = self.globals; functions = self.functions ++ function ∷ [] }) }
     {
         let mut parts = self;
         parts.functions.push(function)?;

@@ -53,7 +53,9 @@ impl OpenBody {
 
     /// What begins the next line, with its place, if there is one.
     fn next_line(&self, alloc: Global, rest: &Rest) -> Result<Option<(Begin, u32)>, AllocError>
-        ensures { IfOk result (λ line. line ≡ first_value (λ t. functions.line_begin (not (is_some self.now.open_block)) t.kind t.bytes t.at) rest.now.left) }
+        ensures { IfOk result
+            (λ line. line ≡ first_value
+            (λ t. functions.line_begin (not (is_some self.now.open_block)) t.kind t.bytes t.at) rest.now.left) }
     {
         match rest.peek() {
             Some((kind, bytes, at)) => {
@@ -75,7 +77,8 @@ impl OpenBody {
 
     /// The place with the mark that a new block takes, where none is open.
     fn opened<'a>(&self, at: u32, rest: Rest<'a>) -> Rest<'a>
-        ensures { result ≡ reading.marked_all rest.entry (functions.opened_marks self.now.open_block at self.now.counter) }
+        ensures { result ≡ reading.marked_all rest.entry
+            (functions.opened_marks self.now.open_block at self.now.counter) }
     {
         match &self.open_block {
             Some(_) => rest,
@@ -85,7 +88,12 @@ impl OpenBody {
 
     /// This body behind a label, whose block is open now.
     fn labelled(self, alloc: Global, name: Name) -> OpenBody
-        ensures { result ≡ record { blocks = self.blocks; open_block = Some (record { name = name; code = [] }); counter = functions.counted name self.counter } }
+        ensures { result ≡ record {
+          blocks = self.blocks;
+          open_block = Some
+              (record { name = name; code = [] });
+          counter = functions.counted name self.counter;
+        } }
     {
         let OpenBody {
             blocks,
@@ -173,7 +181,8 @@ fn label_name(alloc: Global, bytes: &[u8]) -> Result<Option<Name>, AllocError>
     name_of(alloc, &bytes[..bytes.len().saturating_sub(1)])
 }
 
-/// What begins a line, with its place, if a token does: a label where no block is open, the name of a result, or an instruction.
+/// What begins a line, with its place, if a token does: a label where no block is open, the name of a result, or an
+/// instruction.
 fn line_begin(
     alloc: Global,
     may_be_label: bool,

@@ -63,7 +63,8 @@ impl CountedParameters {
 
     /// What begins the next parameter behind these, if there is one.
     fn next(&self, rest: &Rest) -> Option<Option<(Scalar, u32)>>
-        ensures { result ≡ first_value (λ t. functions.next_parameter self.now.params t.kind t.bytes t.at) rest.now.left }
+        ensures { result ≡ first_value
+            (λ t. functions.next_parameter self.now.params t.kind t.bytes t.at) rest.now.left }
     {
         next_parameter(&self.params, rest)
     }
@@ -223,7 +224,8 @@ fn parameters_from<'a>(
     alloc: Global,
     rest: Rest<'a>,
 ) -> Result<(CountedParameters, Rest<'a>), ParseFault>
-    ensures { Gives result (value_at (runs.parameters_from (record { params = []; counter = 0; pending = [] })) rest.entry) }
+    ensures { Gives result
+        (value_at (runs.parameters_from (record { params = []; counter = 0; pending = [] })) rest.entry) }
 {
     runs_go_on();
     items_take_tokens();

@@ -12,7 +12,8 @@ use Rattle.ds_parse_global.specs.Same.{type_front, same_count}
 
 -- what is left of an array type behind its [
 abbrev pub same_array : ℕ → Ty → Grammar no_value
-same_array n of = Then (same_count n) (λ a. Then (word "x") (λ b. Then (type_front of) (λ d. Then (same_rest of) (λ e. punct "]"))))
+same_array n of =
+    Then (same_count n) (λ a. Then (word "x") (λ b. Then (type_front of) (λ d. Then (same_rest of) (λ e. punct "]"))))
 
 pub same-array : (n : ℕ) (of : Ty) → same_rest (ty.Array n of) ≡ same_array n of
 unfolding hidden-the_row-Ty-0 hidden

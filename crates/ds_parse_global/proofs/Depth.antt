@@ -16,15 +16,19 @@ behind structs (suc n) t at h = init_rest structs (initialiser structs n) t h
 
 -- the first token is read, then its mark, and then what stands behind it
 pub by_head : (structs : List StructDef) (n : ℕ) (t : Ty) (p : Place)
-    → value_at (initialiser structs n t) p ≡ then_at (value_at (head structs t) p) (λ h q. value_at (behind structs n t h.1.breach.at h.0) (marked q h.1))
+    → value_at (initialiser structs n t) p ≡ then_at (value_at (head structs t) p)
+    (λ h q. value_at (behind structs n t h.1.breach.at h.0) (marked q h.1))
 unfolding initialiser
 by_head structs zero t p = refl
 by_head structs (suc n) t p = refl
 
-pub behind_leaf : (structs : List StructDef) (n : ℕ) (t : Ty) (at : ℕ) (h : InitHead) → n ≡ 0 → behind structs n t at h ≡ init_leaf at h
+pub behind_leaf : (structs : List StructDef) (n : ℕ) (t : Ty) (at : ℕ) (h : InitHead) → n ≡ 0
+    → behind structs n t at h ≡ init_leaf at h
 behind_leaf structs zero t at h e = refl
 behind_leaf structs (suc n) t at h e = absurd (omega (arith, e))
 
-pub behind_rest : (structs : List StructDef) (n : ℕ) (t : Ty) (at : ℕ) (h : InitHead) → (n ≡ 0 → ⊥) → behind structs n t at h ≡ init_rest structs (initialiser structs (n - 1)) t h
+pub behind_rest : (structs : List StructDef) (n : ℕ) (t : Ty) (at : ℕ) (h : InitHead) → (n ≡ 0 → ⊥)
+    → behind structs n t at h ≡ init_rest structs (initialiser structs (n - 1)) t h
 behind_rest structs zero t at h e = absurd (e refl)
-behind_rest structs (suc n) t at h e = let m : n ≡ suc n - 1 = omega arith in ap (λ m. init_rest structs (initialiser structs m) t h) m
+behind_rest structs (suc n) t at h e =
+    let m : n ≡ suc n - 1 = omega arith in ap (λ m. init_rest structs (initialiser structs m) t h) m

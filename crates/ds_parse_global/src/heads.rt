@@ -80,7 +80,8 @@ fn has_bytes(ty: &Ty) -> bool
 
 /// The text that a token is, behind its `c`.
 fn text_head(alloc: Global, bytes: &[u8], at: u32) -> Result<(InitHead, Mark), AllocError>
-    ensures { IfOk result (λ head. head ≡ (variant.Bytes (texts.text_of (drop 1 bytes.now)), tokens.range_mark at true)) }
+    ensures { IfOk result
+        (λ head. head ≡ (variant.Bytes (texts.text_of (drop 1 bytes.now)), tokens.range_mark at true)) }
 {
     let text = match bytes {
         [] => Vec::new(alloc),
@@ -97,7 +98,9 @@ fn value_head(
     bytes: &[u8],
     at: u32,
 ) -> Result<Option<(InitHead, Mark)>, AllocError>
-    ensures { IfOk result (λ head. head ≡ option_map (λ found. (variant.Word found.0, found.1)) (globals.constant ty.now kind bytes.now at)) }
+    ensures { IfOk result
+        (λ head. head ≡ option_map (λ found. (variant.Word found.0, found.1))
+        (globals.constant ty.now kind bytes.now at)) }
 {
     match constant(alloc, ty, kind, bytes, at)? {
         Some((value, mark)) => Ok(Some((InitHead::Word(value), mark))),

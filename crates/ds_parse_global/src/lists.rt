@@ -60,7 +60,8 @@ fn type_rest<'a>(
     }
 }
 
-/// What begins the next type of a list, if a token does: the type where it is the first one, and a comma before each other.
+/// What begins the next type of a list, if a token does: the type where it is the first one, and a comma before each
+/// other.
 fn type_item(
     alloc: Global,
     types: &[Ty],
@@ -91,7 +92,8 @@ fn next_type(
     types: &List<Ty>,
     rest: &Rest,
 ) -> Result<Option<Option<(Option<Ty>, u32)>>, AllocError>
-    ensures { IfOk result (λ item. item ≡ first_value (λ t. globals.next_type types.now t.kind t.bytes t.at) rest.now.left) }
+    ensures { IfOk result
+        (λ item. item ≡ first_value (λ t. globals.next_type types.now t.kind t.bytes t.at) rest.now.left) }
 {
     match rest.peek() {
         Some((kind, bytes, at)) => type_item(alloc, types.as_slice(), kind, bytes, at),

@@ -14,8 +14,8 @@ use ds_lex::TokenKind;
 use ds_reader::{Rest, is_punct, punct};
 use std::alloc::{AllocError, Global};
 
-/// Whether a token begins an element behind these, of this type: the type where it is the first one, which is then `true`, and a
-/// comma before each other.
+/// Whether a token begins an element behind these, of this type: the type where it is the first one, which is then
+/// `true`, and a comma before each other.
 fn element_item(
     alloc: Global,
     parts: &[Init],
@@ -53,7 +53,9 @@ fn next_element(
     ty: Option<&Ty>,
     rest: &Rest,
 ) -> Result<Option<bool>, AllocError>
-    ensures { IfOk result (λ item. item ≡ first_value (λ u. globals.next_element parts.now (option_copied ty.entry) u.kind u.bytes) rest.now.left) }
+    ensures { IfOk result
+        (λ item. item ≡ first_value
+        (λ u. globals.next_element parts.now (option_copied ty.entry) u.kind u.bytes) rest.now.left) }
 {
     match rest.peek() {
         Some((kind, bytes, _)) => element_item(alloc, parts.as_slice(), ty, kind, bytes),
@@ -88,7 +90,9 @@ fn one_element<'a>(
     ty: Option<&Ty>,
     rest: Rest<'a>,
 ) -> Result<(List<Init>, Rest<'a>), ParseFault>
-    ensures { Gives result (value_at (globals.one_element (globals.initialiser structs.now left) parts is_first (option_copied ty.entry)) rest.entry) }
+    ensures { Gives result
+        (value_at (globals.one_element (globals.initialiser structs.now left) parts is_first (option_copied ty.entry))
+        rest.entry) }
 {
     match ty {
         Some(ty) => {
@@ -112,7 +116,8 @@ fn elements<'a>(
     ty: Option<&Ty>,
     rest: Rest<'a>,
 ) -> Result<(List<Init>, Rest<'a>), ParseFault>
-    ensures { Gives result (value_at (globals.elements (globals.initialiser structs.now left) (option_copied ty.entry)) rest.entry) }
+    ensures { Gives result
+        (value_at (globals.elements (globals.initialiser structs.now left) (option_copied ty.entry)) rest.entry) }
 {
     runs_go_on();
     readings_take_tokens();
@@ -175,7 +180,8 @@ fn init_rest<'a>(
     head: InitHead,
     rest: Rest<'a>,
 ) -> Result<(Init, Rest<'a>), ParseFault>
-    ensures { Gives result (value_at (globals.init_rest structs.now (globals.initialiser structs.now left) ty.now head) rest.entry) }
+    ensures { Gives result
+        (value_at (globals.init_rest structs.now (globals.initialiser structs.now left) ty.now head) rest.entry) }
 {
     match head {
         InitHead::Zero => Ok((Init::Zero, rest)),

@@ -40,7 +40,8 @@ impl Places {
 
     /// A name stands at a place. Where it stood somewhere before, that place stays; and without memory all stay.
     pub fn note(&mut self, name: &Name, at: usize) -> Result<(), AllocError>
-        ensures ok { OnOk result ((q : Name) → place_in self.new q ≡ first_place (place_in self.old q) (is_name name.now q) at) }
+        ensures ok { OnOk result
+            ((q : Name) → place_in self.new q ≡ first_place (place_in self.old q) (is_name name.now q) at) }
         ensures err { OnErr result ((q : Name) → place_in self.new q ≡ place_in self.old q) }
     {
         if self.get(name).is_some() {

@@ -48,7 +48,9 @@ pub fn is_type_front(
 
 /// Whether the next token is the first of this type.
 fn is_next_front(alloc: Global, ty: &Ty, rest: &Rest) -> Result<bool, AllocError>
-    ensures { IfOk result (λ found. rows.fact found ≡ first_value (λ t. rows.fact (globals.is_type_front ty.now t.kind t.bytes)) rest.now.left) }
+    ensures { IfOk result
+        (λ found. rows.fact found
+        ≡ first_value (λ t. rows.fact (globals.is_type_front ty.now t.kind t.bytes)) rest.now.left) }
 {
     match rest.peek() {
         Some((kind, bytes, _)) => is_type_front(alloc, ty, kind, bytes),

@@ -14,7 +14,9 @@ use Rattle.ds_grammar.specs.Instructions.{scalar_word, case_rest}
 abbrev pub cases_from : Scalar → List (ℕ × Name) → Grammar (list_of (both_of a_number a_name))
 cases_from s cs = Loop no_value (λ cs t. fact (is_word (scalar_word s) t.kind t.bytes)) (λ cs u. case_rest s cs) cs
 
-pub cases_more : RunsTakeItems → (s : Scalar) (cs next : List (ℕ × Name)) (p q : Place) → first_value (λ t. fact (is_word (scalar_word s) t.kind t.bytes)) p.left ≡ Some tt
+pub cases_more : RunsTakeItems → (s : Scalar) (cs next : List (ℕ × Name)) (p q : Place)
+    → first_value (λ t. fact (is_word (scalar_word s) t.kind t.bytes)) p.left ≡ Some tt
     → value_at (case_rest s cs) (past p) ≡ Ok (next, q) → value_at (cases_from s cs) p ≡ value_at (cases_from s next) q
 cases_more law s cs next p q first rest =
-    law (list_of (both_of a_number a_name)) no_value (λ cs t. fact (is_word (scalar_word s) t.kind t.bytes)) (λ cs u. case_rest s cs) cs next tt p q first rest
+    law (list_of (both_of a_number a_name)) no_value (λ cs t. fact (is_word (scalar_word s) t.kind t.bytes))
+    (λ cs u. case_rest s cs) cs next tt p q first rest

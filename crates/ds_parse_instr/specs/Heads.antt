@@ -2,7 +2,8 @@
 -- that reads one matches on a few.
 use Rattle.std.specs.Prelude.{Bool, true, false}
 use Rattle.ds_grammar.specs.declared.item.Head.{Head}
-use Rattle.ds_grammar.specs.declared.item.Head.TheVariants.{Alloca, Load, Store, Gep, Rmw, Cmpxchg, Fence, Ret, Br, Switch, Unreachable}
+use Rattle.ds_grammar.specs.declared.item.Head.TheVariants.{Alloca, Load, Store, Gep, Rmw, Cmpxchg, Fence, Ret, Br}
+use Rattle.ds_grammar.specs.declared.item.Head.TheVariants.{Switch, Unreachable}
 
 -- an instruction on memory
 abbrev pub is_memory : Head → Bool

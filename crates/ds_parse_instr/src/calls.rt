@@ -31,7 +31,8 @@ fn argument_item(first: bool, kind: TokenKind, bytes: &[u8]) -> Option<Option<Sc
 
 /// What begins the next argument behind these, if there is one.
 fn next_argument(arguments: &Ops<Operand>, rest: &Rest) -> Option<Option<Scalar>>
-    ensures { result ≡ first_value (λ t. instructions.next_argument (instructions.is_empty arguments.now) t.kind t.bytes) rest.now.left }
+    ensures { result ≡ first_value
+        (λ t. instructions.next_argument (instructions.is_empty arguments.now) t.kind t.bytes) rest.now.left }
 {
     let first = is_empty(arguments);
     match rest.peek() {
@@ -92,7 +93,8 @@ fn arguments<'a>(alloc: Global, rest: Rest<'a>) -> Result<(Ops<Operand>, Rest<'a
     Ok((arguments, rest))
 }
 
-/// A call, behind its word. Where its result is named, its type is not `void`; else a type that is not takes a number, with this mark.
+/// A call, behind its word. Where its result is named, its type is not `void`; else a type that is not takes a
+/// number, with this mark.
 #[tactic(auto, unfolding(ds_grammar::specs::Instructions::call_row))]
 pub fn call_row<'a>(
     alloc: Global,

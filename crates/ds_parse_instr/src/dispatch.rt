@@ -50,7 +50,8 @@ const OTHER_WORDS: [(&[u8], Head); 6] = [
 
 /// What the one word of a row begins, where behind the name of a result no instruction without one stands.
 fn row_word(named: bool, bytes: &[u8]) -> Option<Head>
-    ensures { result ≡ if_none (lookup instructions.result_words bytes.now) (if named then None else lookup instructions.other_words bytes.now) }
+    ensures { result ≡ if_none (lookup instructions.result_words bytes.now)
+        (if named then None else lookup instructions.other_words bytes.now) }
 {
     match find(&RESULT_WORDS, bytes) {
         Some(head) => Some(head),
@@ -163,7 +164,8 @@ fn is_end(head: Head) -> bool
 /// The row of an instruction on memory.
 fn memory_row<'a>(alloc: Global, head: Head, rest: Rest<'a>) -> Result<(Op, Rest<'a>), ParseFault>
     requires { IsTrue (heads.is_memory head) }
-    ensures { (named : Bool) (marks : List Mark) → Gives result (value_at (instructions.begun_row named marks head) rest.entry) }
+    ensures { (named : Bool) (marks : List Mark)
+        → Gives result (value_at (instructions.begun_row named marks head) rest.entry) }
 {
     match head {
         Head::Alloca => alloca_row(alloc, rest),
@@ -180,7 +182,8 @@ fn memory_row<'a>(alloc: Global, head: Head, rest: Rest<'a>) -> Result<(Op, Rest
 /// The row of a terminator.
 fn end_row<'a>(alloc: Global, head: Head, rest: Rest<'a>) -> Result<(Op, Rest<'a>), ParseFault>
     requires { IsTrue (heads.is_end head) }
-    ensures { (named : Bool) (marks : List Mark) → Gives result (value_at (instructions.begun_row named marks head) rest.entry) }
+    ensures { (named : Bool) (marks : List Mark)
+        → Gives result (value_at (instructions.begun_row named marks head) rest.entry) }
 {
     match head {
         Head::Ret => ret_row(alloc, rest),
@@ -234,7 +237,8 @@ fn begun_row<'a>(
     }
 }
 
-/// The row that begins so, behind the name of a result or not. Where there is a result, it takes a number with this mark.
+/// The row that begins so, behind the name of a result or not. Where there is a result, it takes a number with this
+/// mark.
 pub fn row_of<'a>(
     alloc: Global,
     named: bool,

@@ -56,7 +56,8 @@ const ORDERING_WORDS: [(&[u8], ()); 6] = [
 
 /// What a table has for the next token, if it is a word.
 pub fn next_in<A: Copy>(table: &[(&[u8], A)], rest: &Rest) -> Option<A>
-    ensures { result ≡ first_value (λ t. word_in (map (λ row. (row.0.now, row.1)) table.now) t.kind t.bytes) rest.now.left }
+    ensures { result ≡ first_value
+        (λ t. word_in (map (λ row. (row.0.now, row.1)) table.now) t.kind t.bytes) rest.now.left }
 {
     match rest.peek() {
         Some((TokenKind::Word, bytes, _)) => find(table, bytes),

@@ -16,8 +16,10 @@ use std::alloc::Global;
 
 /// The instruction that the tokens from `at` on spell, up to the first dead end.
 ///
-/// `Ok` comes exactly where the tokens before the dead end spell one within its bounds, and they are then taken. `Expected` and
-/// `Unsupported` stand at the dead end, `Range` at a number before it that is out of its range, `DeepType` at a type before it
+/// `Ok` comes exactly where the tokens before the dead end spell one within its bounds, and they are then taken.
+/// `Expected` and
+/// `Unsupported` stand at the dead end, `Range` at a number before it that is out of its range, `DeepType` at a type
+/// before it
 /// that nests too deep. `Memory` comes where there is not enough memory. After a fault `at` is unchanged.
 pub fn parse_instr(
     alloc: Global,
@@ -28,12 +30,18 @@ pub fn parse_instr(
     requires small { length text.now ≤ 8388608 }
     requires lexed { Lexed text.now tokens.now }
     requires within { at.old < length tokens.now }
-    ensures spelled { IfOk result (λ instr. (n : ℕ) × Spells instructions.instruction (lexemes_from text.now tokens.now at.old) instr n × (at.new ≡ at.old + n)) }
-    ensures only { (instr : Instr) (n : ℕ) → Spells instructions.instruction (lexemes_from text.now tokens.now at.old) instr n →
+    ensures spelled { IfOk result
+        (λ instr. (n : ℕ) × Spells instructions.instruction (lexemes_from text.now tokens.now at.old) instr n
+        × (at.new ≡ at.old + n)) }
+    ensures only { (instr : Instr) (n : ℕ)
+        → Spells instructions.instruction (lexemes_from text.now tokens.now at.old) instr n →
         MatchResult result (λ found. found ≡ instr) (λ f. f ≡ ParseFault.Memory) }
-    ensures refused { IfErr result (λ f. (f ≡ ParseFault.Memory) ⊎ Refuses instructions.instruction (lexemes_from text.now tokens.now at.old) (length text.now) f) }
+    ensures refused { IfErr result
+        (λ f. (f ≡ ParseFault.Memory)
+        ⊎ Refuses instructions.instruction (lexemes_from text.now tokens.now at.old) (length text.now) f) }
     // The tokens have one fault at most, and it is told, if there is memory.
-    ensures only_fault { (fault : ParseFault) → Refuses instructions.instruction (lexemes_from text.now tokens.now at.old) (length text.now) fault →
+    ensures only_fault { (fault : ParseFault)
+        → Refuses instructions.instruction (lexemes_from text.now tokens.now at.old) (length text.now) fault →
         (result ≡ Err fault) ⊎ (result ≡ Err ParseFault.Memory) }
     ensures kept { OnErr result (at.new ≡ at.old) }
 {

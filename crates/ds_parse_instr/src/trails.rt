@@ -14,7 +14,8 @@ use std::alloc::Global;
 
 /// What the next token begins in such a list, if it begins anything: a comma, but not behind `#N`, or `#N`.
 fn next_in_trail(stage: Stage, rest: &Rest) -> Option<Ending>
-    ensures { result ≡ first_value (λ t. rows.ending_item (instructions.only_attrs stage) t.kind t.bytes) rest.now.left }
+    ensures { result ≡ first_value
+        (λ t. rows.ending_item (instructions.only_attrs stage) t.kind t.bytes) rest.now.left }
 {
     next_ending(matches!(stage, Stage::Attrs), rest)
 }

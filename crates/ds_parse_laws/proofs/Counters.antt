@@ -27,7 +27,8 @@ risen_is : (n : ℕ) → n < 2 ^ 32 → n + 1 ≡ risen n
 risen_is n lt = omega (arith, lt)
 
 -- a name that is written
-pub written_rises : (name : Name) (c at : ℕ) → IsName name → (written_mark at name c).within ≡ true → Rises c (name ∷ []) (counted name c)
+pub written_rises : (name : Name) (c at : ℕ) → IsName name → (written_mark at name c).within ≡ true
+    → Rises c (name ∷ []) (counted name c)
 written_rises (Number n) c at lt w = (most_true c n w, risen_is n lt)
 written_rises (Text bytes) c at h w = refl
 

@@ -1,5 +1,6 @@
 -- Types are within their bounds.
-use Rattle.std.proofs.Common.{◌≡◌, ℕ, ◌<◌, ◌≤◌, ◌+◌, ◌%◌, ◌^◌, Bool, true, false, cond, not, ◌&&◌, ◌||◌, nat_le, nat_lt, List, [], ◌∷◌, ◌++◌, length, refl, sym, ap, subst, arith, le-ltb}
+use Rattle.std.proofs.Common.{◌≡◌, ℕ, ◌<◌, ◌≤◌, ◌+◌, ◌%◌, ◌^◌, Bool, true, false, cond, not, ◌&&◌, ◌||◌, nat_le}
+use Rattle.std.proofs.Common.{nat_lt, List, [], ◌∷◌, ◌++◌, length, refl, sym, ap, subst, arith, le-ltb}
 use Rattle.std.specs.Prelude.{All, Option, Some, None, option_map, codes}
 use Rattle.std.specs.Str.{bytes_eq}
 use Rattle.std.proofs.lemmas.List.Elements.{All-nil, All-cons, All-head, All-tail, All-same, All-push}
@@ -14,11 +15,14 @@ use Rattle.ds_grammar.specs.declared.fault.Mark.{Mark}
 use Rattle.ds_grammar.specs.Sort.{Sort, TypeOf}
 use Rattle.ds_grammar.specs.Grammar.{Grammar, marked_by}
 use Rattle.ds_grammar.specs.Tokens.{range_mark, lookup, scalar_words, token_name}
-use Rattle.ds_grammar.specs.Types.{Arrays, Closing, array_place, array_front, array_count, count_of, arrays_from, base_type, word_type, array_ends, all_arrays_closed, closed_type, is_flat, marked_front, taken_by, type_of, closes, closed, type_place}
+use Rattle.ds_grammar.specs.Types.{Arrays, Closing, array_place, array_front, array_count, count_of, arrays_from}
+use Rattle.ds_grammar.specs.Types.{base_type, word_type, array_ends, all_arrays_closed, closed_type, is_flat}
+use Rattle.ds_grammar.specs.Types.{marked_front, taken_by, type_of, closes, closed, type_place}
 use Rattle.ds_grammar.specs.Globals.{type_rest, types, types_more, next_type, type_begin}
 use Rattle.ds_grammar.specs.Rows.{is_punct}
 use Rattle.ds_grammar.specs.Instructions.{if_none}
-use Rattle.ds_parse_laws.proofs.Within.{Within, EachWithin, done, one, never, skip, marked, all_marked, run, weaker, ◌⨾◌}
+use Rattle.ds_parse_laws.proofs.Within.{Within, EachWithin, done, one, never, skip, marked, all_marked, run, weaker}
+use Rattle.ds_parse_laws.proofs.Within.{◌⨾◌}
 use Rattle.ds_parse_laws.proofs.Leaves.{mapped, most_true, below_true, token_name_is}
 
 -- how many elements an array may have
@@ -44,7 +48,8 @@ count_is other bs at v e = absurd (cc (e))
 
 count_within : Within array_count IsCount
 unfolding array_count
-count_within = ◌⨾◌ {Q = IsCounted} (one (λ t v b e. count_is t.kind t.bytes t.at v e)) (λ found i. marked (λ w. done found.0 (i w)))
+count_within = ◌⨾◌ {Q = IsCounted} (one (λ t v b e. count_is t.kind t.bytes t.at v e))
+    (λ found i. marked (λ w. done found.0 (i w)))
 
 pub front_within : (o : Arrays) (at : ℕ) → Opened o → Within (array_front o at) Opened
 unfolding array_front
@@ -75,12 +80,14 @@ abbrev pub IsWhole : (Bool → Type 0) → Ty → Type 0
 IsWhole V t = IsType t × V (has_values t)
 
 module _ (V : Bool → Type 0) where
-  one_closed : (c : Closing) (k : TokenKind) (bs : List ℕ) (u : Unit {0}) → closes c.0 k bs ≡ Some u → Closes V c → Closes V (closed false c)
+  one_closed : (c : Closing) (k : TokenKind) (bs : List ℕ) (u : Unit {0}) → closes c.0 k bs ≡ Some u → Closes V c
+      → Closes V (closed false c)
   one_closed ([], t) k bs u e h = absurd (cc (e))
   one_closed (n ∷ ns, t) k bs u e h = record {
     depth = let depth = h.depth in let lens = ap length (counts-array n t) in omega (arith, depth, lens);
     outer = All-tail IsCount n ns h.outer;
-    elements = All-same IsCount (counts (ty.Array n t)) (n ∷ counts t) (counts-array n t) (All-cons IsCount n (counts t) (All-head IsCount n ns h.outer) h.elements);
+    elements = All-same IsCount (counts (ty.Array n t)) (n ∷ counts t) (counts-array n t)
+        (All-cons IsCount n (counts t) (All-head IsCount n ns h.outer) h.elements);
     name = subst IsNamed (sym (innermost-array n t)) h.name;
     has = λ e. h.nested refl;
     nested = λ e. h.nested refl;
@@ -88,15 +95,25 @@ module _ (V : Bool → Type 0) where
 
   ends_within : (deep : Bool) (c : Closing) → deep ≡ false → Closes V c → Within (array_ends deep c) (Closes V)
   unfolding array_ends
-  ends_within deep c no_deep h = run h (λ c t u p b e. done (closed deep c) (subst (λ d. Closes V (closed d c)) (sym no_deep) (one_closed c t.kind t.bytes u e p)))
+  ends_within deep c no_deep h = run h (λ c t u p b e. done (closed deep c)
+      (subst (λ d. Closes V (closed d c)) (sym no_deep) (one_closed c t.kind t.bytes u e p)))
 
   closed_all : (c : Closing) → Closes V c → Within (all_arrays_closed c) (IsWhole V)
-  closed_all ([], t) h = done t (record { depth = let depth = h.depth in omega (arith, depth); elements = h.elements; name = h.name }, h.has refl)
+  closed_all ([], t) h = done t (
+    record {
+      depth = let depth = h.depth in
+          omega (arith, depth);
+      elements = h.elements;
+      name = h.name;
+    },
+    h.has refl,
+  )
   closed_all (n ∷ ns, t) h = never
 
   pub closed_within : (o : Arrays) (t : Ty) → Opened o → Closes V (o.1, t) → Within (closed_type o t) (IsWhole V)
   unfolding closed_type
-  closed_within o t opened h = ends_within (nat_lt 32 (length o.1)) (o.1, t) (le-ltb 32 (length o.1) opened.depth) h ⨾ (λ c i. closed_all c i)
+  closed_within o t opened h =
+      ends_within (nat_lt 32 (length o.1)) (o.1, t) (le-ltb 32 (length o.1) opened.depth) h ⨾ (λ c i. closed_all c i)
 
 -- a type that is no array
 pub record IsBase (may_be_void : Bool) (t : Ty) : Type 0 where
@@ -107,14 +124,17 @@ pub record IsBase (may_be_void : Bool) (t : Ty) : Type 0 where
 word_is_base : (m : Bool) (bs : List ℕ) (t : Ty) → word_type m bs ≡ Some t → IsBase m t
 word_is_base m bs t e = by (bytes_eq bs (codes "void")) m e
   where
-    by : (c m : Bool) → cond c (cond m (Some ty.Void) None) (option_map (λ s. ty.One s) (lookup scalar_words bs)) ≡ Some t → IsBase m t
-    by true true e = let same : ty.Void ≡ t = cc (e) in subst (IsBase true) same (record { none = refl; name = tt; has = λ e. absurd (cc (e)) })
+    by : (c m : Bool) → cond c (cond m (Some ty.Void) None) (option_map (λ s. ty.One s) (lookup scalar_words bs))
+        ≡ Some t → IsBase m t
+    by true true e = let same : ty.Void ≡ t = cc (e) in
+        subst (IsBase true) same (record { none = refl; name = tt; has = λ e. absurd (cc (e)) })
     by true false e = absurd (cc (e))
     by false m e =
         let (s, i, same) = mapped (λ s. ty.One s) (lookup scalar_words bs) t e in
         subst (IsBase m) (sym same) (record { none = refl; name = tt; has = λ e. refl })
 
-pub base_is : (m : Bool) (k : TokenKind) (bs : List ℕ) (t : Ty) → All (λ b. b < 2 ^ 8) bs → base_type m k bs ≡ Some t → IsBase m t
+pub base_is : (m : Bool) (k : TokenKind) (bs : List ℕ) (t : Ty) → All (λ b. b < 2 ^ 8) bs → base_type m k bs ≡ Some t
+    → IsBase m t
 base_is m kind.Word bs t b e = word_is_base m bs t e
 base_is m kind.Local bs t b e =
     let (n, i, same) = mapped (λ n. ty.Struct n) (token_name bs) t e in
@@ -122,7 +142,8 @@ base_is m kind.Local bs t b e =
 base_is m other bs t b e = absurd (cc (e))
 
 -- a type inside arrays
-pub inside : (V : Bool → Type 0) (m : Bool) (o : Arrays) (t : Ty) → Opened o → IsBase m t → (is_flat o.1 ≡ true → V (has_values t)) → (is_flat o.1 ≡ false → V true) → Closes V (o.1, t)
+pub inside : (V : Bool → Type 0) (m : Bool) (o : Arrays) (t : Ty) → Opened o → IsBase m t
+    → (is_flat o.1 ≡ true → V (has_values t)) → (is_flat o.1 ≡ false → V true) → Closes V (o.1, t)
 inside V m o t h b has nested = record {
   depth = let depth = h.depth in let lens = ap length b.none in omega (arith, depth, lens);
   outer = h.elements;
@@ -139,7 +160,8 @@ HasValues may_be_void has = may_be_void ≡ false → has ≡ true
 pub type_within : (may : Bool) → Within (type_of may []) (IsWhole (HasValues may))
 unfolding type_of
 type_within may =
-    arrays_within (0, []) none_opened ⨾ (λ o h. ◌⨾◌ {Q = IsBase (may || not (is_flat o.1))} (one (λ t v b e. base_is (may || not (is_flat o.1)) t.kind t.bytes v b e))
+    arrays_within (0, []) none_opened ⨾ (λ o h. ◌⨾◌ {Q = IsBase (may || not (is_flat o.1))}
+    (one (λ t v b e. base_is (may || not (is_flat o.1)) t.kind t.bytes v b e))
     (λ t b. closed_within (HasValues may) o t h (inside (HasValues may) (may || not (is_flat o.1)) o t h b
     (λ flat no. b.has (both may (is_flat o.1) flat no)) (λ flat no. refl))))
   where
@@ -160,14 +182,17 @@ abbrev TakenFront : List Mark → Arrays → Type 0
 TakenFront marks o = Opened o × (is_flat o.1 ≡ false → EachWithin marks)
 
 -- where the marks are taken they are within their bounds
-all_taken : {a : Sort} {g : Grammar a} {P : TypeOf a → Type 0} (marks : List Mark) (taken : Bool) → ((taken ≡ true → EachWithin marks) → Within g P)
+all_taken : {a : Sort} {g : Grammar a} {P : TypeOf a → Type 0} (marks : List Mark) (taken : Bool)
+    → ((taken ≡ true → EachWithin marks) → Within g P)
     → Within (marked_by (taken_by marks taken) g) P
 all_taken [] taken h = h (λ e. tt)
 all_taken (m ∷ ms) true h = all_marked (m ∷ ms) (λ w. h (λ e. w))
 all_taken (m ∷ ms) false h = h (λ e. absurd (cc (e)))
 
-taken_front_within : (marks : List Mark) (o : Arrays) (at : ℕ) → TakenFront marks o → Within (marked_front marks o at) (TakenFront marks)
-taken_front_within marks o at h = all_taken marks (is_flat o.1) (λ w. weaker (front_within o at h.0) (λ r i. (i, λ e. by (is_flat o.1) refl w)))
+taken_front_within : (marks : List Mark) (o : Arrays) (at : ℕ) → TakenFront marks o
+    → Within (marked_front marks o at) (TakenFront marks)
+taken_front_within marks o at h =
+    all_taken marks (is_flat o.1) (λ w. weaker (front_within o at h.0) (λ r i. (i, λ e. by (is_flat o.1) refl w)))
   where
     by : (f : Bool) → is_flat o.1 ≡ f → (is_flat o.1 ≡ true → EachWithin marks) → EachWithin marks
     by true e w = w e
@@ -178,7 +203,8 @@ unfolding type_of arrays_from
 taking_type_within marks =
     run {P = TakenFront marks} (none_opened, λ e. absurd (cc (e))) (λ o t at p b e. taken_front_within marks o at p)
     ⨾ (λ o h. ◌⨾◌ {Q = IsBase true} (one (λ t v b e. base_is true t.kind t.bytes v b e))
-    (λ t b. all_taken marks (is_flat o.1 && has_values t) (λ w. closed_within (Takes marks) o t h.0 (inside (Takes marks) true o t h.0 b
+    (λ t b. all_taken marks (is_flat o.1 && has_values t)
+    (λ w. closed_within (Takes marks) o t h.0 (inside (Takes marks) true o t h.0 b
     (λ flat has. w (both_true (is_flat o.1) (has_values t) flat has)) (λ flat has. h.1 flat)))))
   where
     both_true : (f v : Bool) → f ≡ true → v ≡ true → f && v ≡ true
@@ -198,10 +224,12 @@ base_type_is t b = record {
   name = b.name;
 }
 
-begun : (k : TokenKind) (bs : List ℕ) (at : ℕ) (v : Option Ty × ℕ) → All (λ b. b < 2 ^ 8) bs → type_begin k bs at ≡ Some v → IsBegun v
+begun : (k : TokenKind) (bs : List ℕ) (at : ℕ) (v : Option Ty × ℕ) → All (λ b. b < 2 ^ 8) bs
+    → type_begin k bs at ≡ Some v → IsBegun v
 begun k bs at v h e = by (array_place k bs at) e
   where
-    by : (o : Option ℕ) → if_none (option_map (λ place. (None, place)) o) (option_map (λ t. (Some t, at)) (base_type true k bs)) ≡ Some v → IsBegun v
+    by : (o : Option ℕ) → if_none (option_map (λ place. (None, place)) o)
+        (option_map (λ t. (Some t, at)) (base_type true k bs)) ≡ Some v → IsBegun v
     by (Some place) e = let same : (None, place) ≡ v = cc (e) in subst IsBegun same tt
     by None e =
         let (t, i, same) = mapped (λ t. (Some t, at)) (base_type true k bs) v e in
@@ -211,15 +239,18 @@ type_rest_within : (v : Option Ty × ℕ) → IsBegun v → Within (type_rest v)
 unfolding type_rest
 type_rest_within (Some t, at) h = done t h
 type_rest_within (None, at) h =
-    front_within (0, []) at none_opened ⨾ (λ f i. arrays_within f i ⨾ (λ o j. ◌⨾◌ {Q = IsBase true} (one (λ t v b e. base_is true t.kind t.bytes v b e))
-    (λ t b. weaker (closed_within (λ b. Unit {0}) o t j (inside (λ b. Unit {0}) true o t j b (λ e. tt) (λ e. tt))) (λ t h. h.0))))
+    front_within (0, []) at none_opened ⨾ (λ f i. arrays_within f i ⨾
+    (λ o j. ◌⨾◌ {Q = IsBase true} (one (λ t v b e. base_is true t.kind t.bytes v b e))
+    (λ t b. weaker (closed_within (λ b. Unit {0}) o t j (inside (λ b. Unit {0}) true o t j b (λ e. tt) (λ e. tt)))
+    (λ t h. h.0))))
 
 -- what begins the next type of a list is begun
 abbrev IsNext : Option (Option Ty × ℕ) → Type 0
 IsNext None = Unit {0}
 IsNext (Some b) = IsBegun b
 
-next_is : (ts : List Ty) (k : TokenKind) (bs : List ℕ) (at : ℕ) (v : Option (Option Ty × ℕ)) → All (λ b. b < 2 ^ 8) bs → next_type ts k bs at ≡ Some v → IsNext v
+next_is : (ts : List Ty) (k : TokenKind) (bs : List ℕ) (at : ℕ) (v : Option (Option Ty × ℕ)) → All (λ b. b < 2 ^ 8) bs
+    → next_type ts k bs at ≡ Some v → IsNext v
 next_is [] k bs at v h e =
     let (b, i, same) = mapped (λ b. Some b) (type_begin k bs at) v e in subst IsNext (sym same) (begun k bs at b h i)
 next_is (t ∷ ts) k bs at None h e = tt
@@ -229,7 +260,8 @@ next_is (t ∷ ts) k bs at (Some b) h e = by (is_punct (codes ",") k bs) e
     by true e = absurd (cc (e))
     by false e = absurd (cc (e))
 
-types_more_within : (ts : List Ty) (v : Option (Option Ty × ℕ)) → All IsType ts → IsNext v → Within (types_more ts v) (All IsType)
+types_more_within : (ts : List Ty) (v : Option (Option Ty × ℕ)) → All IsType ts → IsNext v
+    → Within (types_more ts v) (All IsType)
 types_more_within ts (Some b) h i = type_rest_within b i ⨾ (λ t j. done (ts ++ t ∷ []) (All-push IsType ts t h j))
 types_more_within ts None h i = any_type_within true ⨾ (λ t j. done (ts ++ t ∷ []) (All-push IsType ts t h j))
 

@@ -5,7 +5,8 @@
 
 ghost use Rattle.ds_parse_laws.specs.Laws.{TextsAreWithinBounds, TokensAreWithinBounds};
 
-/// A module that fewer than 2^32 tokens have the form of is within its bounds, where nothing in them is out of its bound.
+/// A module that fewer than 2^32 tokens have the form of is within its bounds, where nothing in them is out of its
+/// bound.
 pub fn tokens_are_within_bounds()
     ensures { TokensAreWithinBounds }
 {}

@@ -99,22 +99,28 @@ module _ {A : Type 0} (f : A → List Piece) (P : A → Type 0) (each : (x : A) 
   pub more_apart : {ps : List Piece} (xs : List A) → All P xs → Behind ps → Behind (more_listed (map f xs) ++ ps)
   more_apart [] h k = k
   more_apart (x ∷ xs) h k =
-      comma_blank (in_a_row (f x) (more_listed (map f xs)) _ (put_all (f x) (each x (all_first P x xs h)) (more_apart xs (all_rest P x xs h) k)))
+      comma_blank (in_a_row (f x) (more_listed (map f xs)) _
+      (put_all (f x) (each x (all_first P x xs h)) (more_apart xs (all_rest P x xs h) k)))
 
   -- with commas between them
   pub listed_apart : {ps : List Piece} (xs : List A) → All P xs → Behind ps → Apart (listed (map f xs) ++ ps)
   listed_apart [] h k = apart k
   listed_apart (x ∷ xs) h k =
-      in_a_row (f x) (more_listed (map f xs)) _ (put_all (f x) (each x (all_first P x xs h)) (more_apart xs (all_rest P x xs h) k))
+      in_a_row (f x) (more_listed (map f xs)) _ (put_all (f x) (each x (all_first P x xs h))
+      (more_apart xs (all_rest P x xs h) k))
 
   -- the same behind a space
-  pub listed_behind_space_apart : {ps : List Piece} (xs : List A) → All P xs → Behind ps → Behind (listed_behind_space (map f xs) ++ ps)
+  pub listed_behind_space_apart : {ps : List Piece} (xs : List A) → All P xs → Behind ps
+      → Behind (listed_behind_space (map f xs) ++ ps)
   listed_behind_space_apart [] h k = k
   listed_behind_space_apart (x ∷ xs) h k =
-      blank (in_a_row (f x) (more_listed (map f xs)) _ (put_all (f x) (each x (all_first P x xs h)) (more_apart xs (all_rest P x xs h) k)))
+      blank (in_a_row (f x) (more_listed (map f xs)) _
+      (put_all (f x) (each x (all_first P x xs h)) (more_apart xs (all_rest P x xs h) k)))
 
 -- pieces that end in a blank or a mark, one list behind the other
-module _ {A : Type 0} (f : A → List Piece) (P : A → Type 0) (each : (x : A) (ps : List Piece) → P x → Apart ps → Apart (f x ++ ps)) where
+module _ {A : Type 0} (f : A → List Piece) (P : A → Type 0)
+    (each : (x : A) (ps : List Piece) → P x → Apart ps → Apart (f x ++ ps)) where
   pub rows_apart : {ps : List Piece} (xs : List A) → All P xs → Apart ps → Apart (flat_map f xs ++ ps)
   rows_apart [] h k = k
-  rows_apart (x ∷ xs) h k = in_a_row (f x) (flat_map f xs) _ (each x _ (all_first P x xs h) (rows_apart xs (all_rest P x xs h) k))
+  rows_apart (x ∷ xs) h k =
+      in_a_row (f x) (flat_map f xs) _ (each x _ (all_first P x xs h) (rows_apart xs (all_rest P x xs h) k))

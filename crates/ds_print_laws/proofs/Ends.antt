@@ -14,7 +14,8 @@ use Rattle.ds_ast.specs.declared.words.RmwOp.TheVariants as rmw
 use Rattle.ds_grammar.specs.declared.item.RunItem.{RunItem}
 use Rattle.ds_grammar.specs.Sort.{Lexeme}
 use Rattle.ds_grammar.specs.Tokens.{text_words, is_ignored_word, word_in}
-use Rattle.ds_grammar.specs.Rows.{fact, is_word, run_item, ignored_run, ignored_from, ending_item, endings, endings_from}
+use Rattle.ds_grammar.specs.Rows.{fact, is_word, run_item, ignored_run, ignored_from, ending_item, endings}
+use Rattle.ds_grammar.specs.Rows.{endings_from}
 use Rattle.ds_grammar.specs.Instructions.{ordering_words, optional_atomic, optional_ordering}
 use Rattle.ds_print.specs.Names as print
 use Rattle.ds_print.specs.Canonical.{type_pieces, cond_word, rmw_op_word}
@@ -47,7 +48,8 @@ scalar_no_run I32 b ps = λ at. refl
 scalar_no_run I64 b ps = λ at. refl
 scalar_no_run Ptr b ps = λ at. refl
 
-pub scalar_no_atomic : (s : Scalar) (ps : List Piece) → NoneBegins (λ t. fact (is_word (codes "atomic") t.kind t.bytes)) (print.scalar s ∷ ps)
+pub scalar_no_atomic : (s : Scalar) (ps : List Piece)
+    → NoneBegins (λ t. fact (is_word (codes "atomic") t.kind t.bytes)) (print.scalar s ∷ ps)
 scalar_no_atomic I1 ps = λ at. refl
 scalar_no_atomic I8 ps = λ at. refl
 scalar_no_atomic I16 ps = λ at. refl
@@ -68,7 +70,8 @@ unfolding is_ignored_word text_words
 truth_no_run true b ps = λ at. refl
 truth_no_run false b ps = λ at. refl
 
-integer_no_run : (s : Scalar) (n : ℕ) (b : Bool) (ps : List Piece) → NoneBegins (run_test b) (print.integer_operand s n ∷ ps)
+integer_no_run : (s : Scalar) (n : ℕ) (b : Bool) (ps : List Piece)
+    → NoneBegins (run_test b) (print.integer_operand s n ∷ ps)
 integer_no_run I1 n b ps = truth_no_run (not (eqb n 0)) b ps
 integer_no_run I8 n b ps = λ at. refl
 integer_no_run I16 n b ps = λ at. refl
@@ -77,7 +80,8 @@ integer_no_run I64 n b ps = λ at. refl
 integer_no_run Ptr n b ps = λ at. refl
 
 -- a value is no item
-pub value_no_run : (s : Scalar) (v : Value) (b : Bool) (ps : List Piece) → NoneBegins (run_test b) (print.value s v ∷ ps)
+pub value_no_run : (s : Scalar) (v : Value) (b : Bool) (ps : List Piece)
+    → NoneBegins (run_test b) (print.value s v ∷ ps)
 unfolding is_ignored_word text_words
 value_no_run s (Int n) b ps = integer_no_run s n b ps
 value_no_run s Null b ps = λ at. refl
@@ -98,7 +102,8 @@ cond_no_run Sge b ps = λ at. refl
 cond_no_run Slt b ps = λ at. refl
 cond_no_run Sle b ps = λ at. refl
 
-pub rmw_no_run : (o : RmwOp) (b : Bool) (ps : List Piece) → NoneBegins (run_test b) (print.spelled (rmw_op_word o) ∷ ps)
+pub rmw_no_run : (o : RmwOp) (b : Bool) (ps : List Piece)
+    → NoneBegins (run_test b) (print.spelled (rmw_op_word o) ∷ ps)
 unfolding is_ignored_word text_words
 rmw_no_run rmw.Xchg b ps = λ at. refl
 rmw_no_run rmw.Add b ps = λ at. refl
@@ -119,7 +124,8 @@ module _ (known : Known) where
   unfolding endings_from
   no_endings ps h = run_end known (h.no_ending false)
 
-  pub no_atomic : (ps : List Piece) → NoneBegins (λ t. fact (is_word (codes "atomic") t.kind t.bytes)) ps → Gets optional_atomic ps None ps
+  pub no_atomic : (ps : List Piece) → NoneBegins (λ t. fact (is_word (codes "atomic") t.kind t.bytes)) ps
+      → Gets optional_atomic ps None ps
   unfolding optional_atomic
   no_atomic ps h = without known h
 
@@ -127,17 +133,22 @@ module _ (known : Known) where
   unfolding optional_ordering
   no_ordering ps h = without known h.no_ordering
 
-  pub none_before_scalar : (s : Scalar) (ps : List Piece) → Gets ignored_run (print.scalar s ∷ ps) false (print.scalar s ∷ ps)
+  pub none_before_scalar : (s : Scalar) (ps : List Piece)
+      → Gets ignored_run (print.scalar s ∷ ps) false (print.scalar s ∷ ps)
   none_before_scalar s ps = no_ignored (print.scalar s ∷ ps) (scalar_no_run s false ps)
 
-  pub none_before_type : (t : Ty) (ps : List Piece) → Gets ignored_run (type_pieces t ++ ps) false (type_pieces t ++ ps)
+  pub none_before_type : (t : Ty) (ps : List Piece)
+      → Gets ignored_run (type_pieces t ++ ps) false (type_pieces t ++ ps)
   none_before_type t ps = no_ignored (type_pieces t ++ ps) (type_no_run t false ps)
 
-  pub none_before_cond : (c : Cond) (ps : List Piece) → Gets ignored_run (print.spelled (cond_word c) ∷ ps) false (print.spelled (cond_word c) ∷ ps)
+  pub none_before_cond : (c : Cond) (ps : List Piece)
+      → Gets ignored_run (print.spelled (cond_word c) ∷ ps) false (print.spelled (cond_word c) ∷ ps)
   none_before_cond c ps = no_ignored (print.spelled (cond_word c) ∷ ps) (cond_no_run c false ps)
 
-  pub none_before_rmw : (o : RmwOp) (ps : List Piece) → Gets ignored_run (print.spelled (rmw_op_word o) ∷ ps) false (print.spelled (rmw_op_word o) ∷ ps)
+  pub none_before_rmw : (o : RmwOp) (ps : List Piece)
+      → Gets ignored_run (print.spelled (rmw_op_word o) ∷ ps) false (print.spelled (rmw_op_word o) ∷ ps)
   none_before_rmw o ps = no_ignored (print.spelled (rmw_op_word o) ∷ ps) (rmw_no_run o false ps)
 
-  pub no_atomic_before : (s : Scalar) (ps : List Piece) → Gets optional_atomic (print.scalar s ∷ ps) None (print.scalar s ∷ ps)
+  pub no_atomic_before : (s : Scalar) (ps : List Piece)
+      → Gets optional_atomic (print.scalar s ∷ ps) None (print.scalar s ∷ ps)
   no_atomic_before s ps = no_atomic (print.scalar s ∷ ps) (scalar_no_atomic s ps)

@@ -9,7 +9,9 @@ use Rattle.ds_ast.specs.declared.words.BinOp.TheVariants as bin
 use Rattle.ds_ast.specs.declared.words.CastOp.{CastOp}
 use Rattle.ds_ast.specs.declared.words.CastOp.TheVariants as cast
 use Rattle.ds_ast.specs.declared.instr.Op.{Op}
-use Rattle.ds_ast.specs.declared.instr.Op.TheVariants.{Bin, Icmp, Select, Cast, Alloca, Load, Store, Gep, Call, Phi, Rmw, Cmpxchg, Extract, Fence, Ret, Br, CondBr, Switch, Unreachable}
+use Rattle.ds_ast.specs.declared.instr.Op.TheVariants.{Bin, Icmp, Select, Cast, Alloca, Load, Store, Gep, Call, Phi}
+use Rattle.ds_ast.specs.declared.instr.Op.TheVariants.{Rmw, Cmpxchg, Extract, Fence, Ret, Br, CondBr, Switch}
+use Rattle.ds_ast.specs.declared.instr.Op.TheVariants.{Unreachable}
 use Rattle.ds_grammar.specs.declared.item.Head.TheVariants as head
 use Rattle.ds_grammar.specs.Tokens.{is_ignored_word, text_words, word_in}
 use Rattle.ds_grammar.specs.Rows.{run_item, ending_item}
@@ -41,8 +43,10 @@ cast_op_begins cast.PtrToInt = refl
 cast_op_begins cast.IntToPtr = refl
 
 -- a word that is no ordering and no item of a run
-pub word_ends : (bytes : List ℕ) (ps : List Piece) → ((b : Bool) → run_item b kind.Word bytes ≡ None) → word_in ordering_words kind.Word bytes ≡ None → EndsInstruction (print.spelled bytes ∷ ps)
-word_ends bytes ps no_run no_ordering = record { no_ending = λ b at. refl; no_run = λ b at. no_run b; no_ordering = λ at. no_ordering }
+pub word_ends : (bytes : List ℕ) (ps : List Piece) → ((b : Bool) → run_item b kind.Word bytes ≡ None)
+    → word_in ordering_words kind.Word bytes ≡ None → EndsInstruction (print.spelled bytes ∷ ps)
+word_ends bytes ps no_run no_ordering =
+    record { no_ending = λ b at. refl; no_run = λ b at. no_run b; no_ordering = λ at. no_ordering }
 
 bin_op_ends : (o : BinOp) (ps : List Piece) → EndsInstruction (print.spelled (bin_op_word o) ∷ ps)
 unfolding is_ignored_word text_words
@@ -110,4 +114,5 @@ close_no_run true = refl
 close_no_run false = refl
 
 pub close_ends : (ps : List Piece) → EndsInstruction (print.punct "}" ∷ ps)
-close_ends ps = record { no_ending = λ b at. close_no_ending b; no_run = λ b at. close_no_run b; no_ordering = λ at. refl }
+close_ends ps =
+    record { no_ending = λ b at. close_no_ending b; no_run = λ b at. close_no_run b; no_ordering = λ at. refl }

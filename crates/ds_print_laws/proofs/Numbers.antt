@@ -1,5 +1,6 @@
 -- Numbers that are written with a sign are read as what they are.
-use Rattle.std.proofs.Common.{◌≡◌, ℕ, ◌<◌, ◌≤◌, ◌+◌, ◌-◌, ◌*◌, ◌%◌, ◌^◌, Bool, true, false, ◌&&◌, eqb, ltb, cond, List, [], ◌∷◌, refl, ap, ◌∙◌, arith, mod-eq_of_lt, lt-ltb, ltb-false}
+use Rattle.std.proofs.Common.{◌≡◌, ℕ, ◌<◌, ◌≤◌, ◌+◌, ◌-◌, ◌*◌, ◌%◌, ◌^◌, Bool, true, false, ◌&&◌, eqb, ltb, cond}
+use Rattle.std.proofs.Common.{List, [], ◌∷◌, refl, ap, ◌∙◌, arith, mod-eq_of_lt, lt-ltb, ltb-false}
 use Rattle.std.specs.Prelude.{Some, decimal}
 use Rattle.std.proofs.lemmas.Bool.Decides.{nat_tests}
 use Rattle.std.proofs.Math.Nat.{add-mul-mod_self_left}
@@ -27,7 +28,8 @@ pub record IsRead (w : ℕ) (bytes : List ℕ) (n : ℕ) : Type 0 where
   pub same : number % 2 ^ w ≡ n
   pub fits : fits_width w (is_negative bytes) number ≡ true
 
-by_sign : (w : ℕ) (n : ℕ) (small : Bool) → (small ≡ true → IsRead w (decimal n) n) → (small ≡ false → IsRead w (45 ∷ decimal (2 ^ w - n)) n)
+by_sign : (w : ℕ) (n : ℕ) (small : Bool) → (small ≡ true → IsRead w (decimal n) n)
+    → (small ≡ false → IsRead w (45 ∷ decimal (2 ^ w - n)) n)
     → IsRead w (cond small (decimal n) (45 ∷ decimal (2 ^ w - n))) n
 by_sign w n true h k = h refl
 by_sign w n false h k = k refl
@@ -50,18 +52,23 @@ module _ (known : Known) where
     fits = fits_positive w n (is_negative (decimal n)) (digits_no_minus (decimal n) (known.digits n small)) lt;
   }
 
-  negative : (w q n : ℕ) → 2 ^ w * q + 2 ^ w ≡ 2 ^ 64 → 2 ^ w ≤ 2 ^ (w - 1) + 2 ^ (w - 1) → 2 ^ (w - 1) ≤ 2 ^ 63 → n < 2 ^ w → 2 ^ (w - 1) ≤ n → IsRead w (45 ∷ decimal (2 ^ w - n)) n
+  negative : (w q n : ℕ) → 2 ^ w * q + 2 ^ w ≡ 2 ^ 64 → 2 ^ w ≤ 2 ^ (w - 1) + 2 ^ (w - 1) → 2 ^ (w - 1) ≤ 2 ^ 63
+      → n < 2 ^ w → 2 ^ (w - 1) ≤ n → IsRead w (45 ∷ decimal (2 ^ w - n)) n
   negative w q n whole half small lt le = record {
     number = 2 ^ 64 - (2 ^ w - n);
     is = known.negatives (2 ^ w - n) (omega (arith, lt)) (omega (arith, half, small, lt, le));
-    same = let e : 2 ^ 64 - (2 ^ w - n) ≡ n + 2 ^ w * q = omega (arith, whole, lt) in ap (λ m. m % 2 ^ w) e ∙ (add-mul-mod_self_left n (2 ^ w) q ∙ mod-eq_of_lt lt);
+    same = let e : 2 ^ 64 - (2 ^ w - n) ≡ n + 2 ^ w * q = omega (arith, whole, lt) in ap (λ m. m % 2 ^ w) e
+        ∙ (add-mul-mod_self_left n (2 ^ w) q ∙ mod-eq_of_lt lt);
     fits = fits_negative w (2 ^ 64 - (2 ^ w - n)) (omega (arith, half, lt, le));
   }
 
   -- a number of so many bits, with its sign
-  signed_by : (w q n : ℕ) → 2 ^ w * q + 2 ^ w ≡ 2 ^ 64 → 2 ^ w ≤ 2 ^ (w - 1) + 2 ^ (w - 1) → 2 ^ (w - 1) ≤ 2 ^ 63 → 2 ^ w ≤ 2 ^ 64 → n < 2 ^ w → IsRead w (signed w n) n
+  signed_by : (w q n : ℕ) → 2 ^ w * q + 2 ^ w ≡ 2 ^ 64 → 2 ^ w ≤ 2 ^ (w - 1) + 2 ^ (w - 1) → 2 ^ (w - 1) ≤ 2 ^ 63
+      → 2 ^ w ≤ 2 ^ 64 → n < 2 ^ w → IsRead w (signed w n) n
   unfolding signed
-  signed_by w q n whole half small within lt = by_sign w n (ltb n (2 ^ (w - 1))) (λ h. positive w n lt (omega (arith, lt, within))) (λ h. negative w q n whole half small lt (ltb-false n (2 ^ (w - 1)) h))
+  signed_by w q n whole half small within lt = by_sign w n (ltb n (2 ^ (w - 1)))
+      (λ h. positive w n lt (omega (arith, lt, within)))
+      (λ h. negative w q n whole half small lt (ltb-false n (2 ^ (w - 1)) h))
 
   pub signed_is : (s : Scalar) (n : ℕ) → n < 2 ^ width s → IsRead (width s) (signed (width s) n) n
   signed_is I1 n lt = signed_by 1 (2 ^ 63 - 1) n (omega arith) (omega arith) (omega arith) (omega arith) lt

@@ -1,10 +1,12 @@
 -- Names, numbers and values are spelled as tokens.
-use Rattle.std.proofs.Common.{◌≡◌, ℕ, ◌-◌, ◌<◌, ◌/◌, ◌%◌, ◌^◌, Bool, true, false, ◌&&◌, not, ◌⊎◌, eqb, cond, List, [], ◌∷◌, ◌++◌, length, take, inl, inr, refl, ap, sym, ◌∙◌, subst, arith}
+use Rattle.std.proofs.Common.{◌≡◌, ℕ, ◌-◌, ◌<◌, ◌/◌, ◌%◌, ◌^◌, Bool, true, false, ◌&&◌, not, ◌⊎◌, eqb, cond, List, []}
+use Rattle.std.proofs.Common.{◌∷◌, ◌++◌, length, take, inl, inr, refl, ap, sym, ◌∙◌, subst, arith}
 use Rattle.std.proofs.lemmas.Bool.Decides.{nat_tests}
 use Rattle.std.specs.Prelude.{decimal, flat_map}
 use Rattle.std.specs.List.{list_all}
 use Rattle.ds_lex.specs.declared.bytes.ByteClass.{ByteClass}
-use Rattle.ds_lex.specs.declared.bytes.ByteClass.TheVariants.{Blank, Semicolon, Percent, At, Hash, Bang, Quote, Minus, Digit, Letter, Mark, Other}
+use Rattle.ds_lex.specs.declared.bytes.ByteClass.TheVariants.{Blank, Semicolon, Percent, At, Hash, Bang, Quote, Minus}
+use Rattle.ds_lex.specs.declared.bytes.ByteClass.TheVariants.{Digit, Letter, Mark, Other}
 use Rattle.ds_lex.specs.declared.bytes.RunOf.TheVariants.{NameBytes, TextBytes}
 use Rattle.ds_lex.specs.Bytes.{is_digit, class_of, begins_name, belongs}
 use Rattle.ds_lex.specs.Lexed.{IsName, IsWord, IsDigits, IsText, IsAnyName, IsNameInRange}
@@ -12,7 +14,8 @@ use Rattle.ds_lex.specs.Written.{DecimalsAreDigits, DecimalsAreRead, NegativesAr
 use Rattle.ds_ast.specs.declared.name.Name.{Name}
 use Rattle.ds_ast.specs.declared.name.Name.TheVariants.{Number, Text}
 use Rattle.ds_ast.specs.Bounds as bounds
-use Rattle.ds_print.specs.Names.{is_plain_name, is_plain_label, is_letter_class, hexadecimal_digit, stands_for_itself, escaped, quoted, name_or_quoted, name_text, label_text, local, global, label}
+use Rattle.ds_print.specs.Names.{is_plain_name, is_plain_label, is_letter_class, hexadecimal_digit, stands_for_itself}
+use Rattle.ds_print.specs.Names.{escaped, quoted, name_or_quoted, name_text, label_text, local, global, label}
 use Rattle.ds_print_laws.proofs.Texts.{but_last}
 use Rattle.ds_print_laws.proofs.Behind.{IsPiece}
 
@@ -48,7 +51,8 @@ letter_class Other h = absurd cc
 
 pub plain_is_word : (bytes : List ℕ) → is_plain_label bytes ≡ true → IsWord bytes
 plain_is_word [] h = absurd cc
-plain_is_word (b ∷ bs) h = let p = both (is_letter_class (class_of b)) (list_all (belongs NameBytes) bs) h in (letter_class (class_of b) p.0, p.1)
+plain_is_word (b ∷ bs) h = let p = both (is_letter_class (class_of b)) (list_all (belongs NameBytes) bs) h in
+    (letter_class (class_of b) p.0, p.1)
 
 plain_is_name : (bytes : List ℕ) → is_plain_name bytes ≡ true → IsName bytes
 plain_is_name [] h = absurd cc
@@ -82,17 +86,20 @@ itself_no_quote b h = grind (arith, nat_tests)
 abbrev no_quotes : List ℕ → Bool
 no_quotes bs = list_all (belongs TextBytes) bs
 
-escaped_by : (b : ℕ) (itself : Bool) → stands_for_itself b ≡ itself → no_quotes (cond itself (b ∷ []) (92 ∷ hexadecimal_digit (b / 16) ∷ hexadecimal_digit (b % 16) ∷ [])) ≡ true
+escaped_by : (b : ℕ) (itself : Bool) → stands_for_itself b ≡ itself
+    → no_quotes (cond itself (b ∷ []) (92 ∷ hexadecimal_digit (b / 16) ∷ hexadecimal_digit (b % 16) ∷ [])) ≡ true
 escaped_by b true h = itself_no_quote b h
 escaped_by b false h = together _ _ (digit_no_quote (b / 16)) (together _ _ (digit_no_quote (b % 16)) refl)
 
 all_behind : (xs ys : List ℕ) → no_quotes xs ≡ true → no_quotes ys ≡ true → no_quotes (xs ++ ys) ≡ true
 all_behind [] ys h k = k
-all_behind (x ∷ xs) ys h k = let p = both (belongs TextBytes x) (no_quotes xs) h in together (belongs TextBytes x) (no_quotes (xs ++ ys)) p.0 (all_behind xs ys p.1 k)
+all_behind (x ∷ xs) ys h k = let p = both (belongs TextBytes x) (no_quotes xs) h in
+    together (belongs TextBytes x) (no_quotes (xs ++ ys)) p.0 (all_behind xs ys p.1 k)
 
 escaped_no_quotes : (bytes : List ℕ) → no_quotes (flat_map escaped bytes) ≡ true
 escaped_no_quotes [] = refl
-escaped_no_quotes (b ∷ bs) = all_behind (escaped b) (flat_map escaped bs) (escaped_by b (stands_for_itself b) refl) (escaped_no_quotes bs)
+escaped_no_quotes (b ∷ bs) =
+    all_behind (escaped b) (flat_map escaped bs) (escaped_by b (stands_for_itself b) refl) (escaped_no_quotes bs)
 
 quoted_is_text : (bytes : List ℕ) → IsText (quoted bytes)
 unfolding quoted class_of
@@ -120,7 +127,8 @@ label_by false bytes h d = quoted_no_digits bytes d
 abbrev IsLabelName : List ℕ → Type 0
 IsLabelName name = IsWord name ⊎ (IsDigits name ⊎ IsText name)
 
-label_name_by : (plain : Bool) (bytes : List ℕ) → is_plain_label bytes ≡ plain → IsLabelName (name_or_quoted plain bytes)
+label_name_by : (plain : Bool) (bytes : List ℕ) → is_plain_label bytes ≡ plain
+    → IsLabelName (name_or_quoted plain bytes)
 label_name_by true bytes h = inl (plain_is_word bytes h)
 label_name_by false bytes h = inr (inr (quoted_is_text bytes))
 
@@ -136,7 +144,8 @@ module _ (numerals : Numerals) where
   digits_are n lt = (numerals.digits n (omega (arith, lt))).0
 
   decimal_in_range : (n : ℕ) → n < 2 ^ 32 → IsNameInRange (decimal n)
-  decimal_in_range n lt d = let small : n < 10 ^ 64 = omega (arith, lt) in subst (λ m. m < 2 ^ 32) (sym (numerals.digits n small).1) lt
+  decimal_in_range n lt d =
+      let small : n < 10 ^ 64 = omega (arith, lt) in subst (λ m. m < 2 ^ 32) (sym (numerals.digits n small).1) lt
 
   any_name : (name : Name) → bounds.IsName name → IsAnyName (name_text name)
   any_name (Number n) h = inr (inl (digits_are n (omega (arith, h))))

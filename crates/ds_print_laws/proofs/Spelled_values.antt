@@ -1,5 +1,6 @@
 -- Words, numbers and values are spelled as tokens.
-use Rattle.std.proofs.Common.{◌≡◌, ℕ, ◌+◌, ◌-◌, ◌<◌, ◌≤◌, ◌^◌, Bool, true, false, not, eqb, ltb, cond, List, ◌∷◌, inl, inr, refl, ap, arith, ltb-false}
+use Rattle.std.proofs.Common.{◌≡◌, ℕ, ◌+◌, ◌-◌, ◌<◌, ◌≤◌, ◌^◌, Bool, true, false, not, eqb, ltb, cond, List, ◌∷◌, inl}
+use Rattle.std.proofs.Common.{inr, refl, ap, arith, ltb-false}
 use Rattle.std.specs.Prelude.{Option, Some, IsSome, is_some, decimal}
 use Rattle.ds_lex.specs.declared.token.TokenKind.TheVariants as kind
 use Rattle.ds_lex.specs.Bytes.{class_of}
@@ -19,7 +20,8 @@ use Rattle.ds_ast.specs.declared.words.Cond.TheVariants as cond_code
 use Rattle.ds_ast.specs.declared.words.RmwOp.{RmwOp}
 use Rattle.ds_ast.specs.declared.words.RmwOp.TheVariants as rmw
 use Rattle.ds_ast.specs.Bounds.{IsValue, width}
-use Rattle.ds_print.specs.Names.{spelled, is_plain_label, number, signed, integer, scalar_word, scalar, truth, integer_operand, value}
+use Rattle.ds_print.specs.Names.{spelled, is_plain_label, number, signed, integer, scalar_word, scalar, truth}
+use Rattle.ds_print.specs.Names.{integer_operand, value}
 use Rattle.ds_print.specs.Canonical.{bin_op_word, cast_op_word, cond_word, rmw_op_word}
 use Rattle.ds_print_laws.proofs.Behind.{IsPiece}
 use Rattle.ds_print_laws.proofs.Spelled_names.{Numerals, digits_are, plain_is_word, local_is, global_is}
@@ -112,8 +114,10 @@ truth_is false = word_is _ refl
 read_some : (found : Option ℕ) (n : ℕ) → found ≡ Some n → IsSome found
 read_some found n e = ap is_some e
 
-number_token : (bytes : List ℕ) (n : ℕ) → IsInteger bytes → number_of bytes ≡ Some n → IsPiece (Written kind.Number bytes)
-number_token bytes n h e = record { before = λ ps k. record { are = (h, read_some (number_of bytes) n e, k.ends, k.are) } }
+number_token : (bytes : List ℕ) (n : ℕ) → IsInteger bytes → number_of bytes ≡ Some n
+    → IsPiece (Written kind.Number bytes)
+number_token bytes n h e =
+    record { before = λ ps k. record { are = (h, read_some (number_of bytes) n e, k.ends, k.are) } }
 
 module _ (numerals : Numerals) where
   pub number_is : (n : ℕ) → n < 2 ^ 64 → IsPiece (number n)
@@ -121,18 +125,22 @@ module _ (numerals : Numerals) where
 
   negative_is : (n : ℕ) → 0 < n → n ≤ 2 ^ 63 → IsPiece (Written kind.Number (45 ∷ decimal n))
   unfolding class_of
-  negative_is n p le = number_token (45 ∷ decimal n) (2 ^ 64 - n) (inr (refl, digits_are numerals n (omega (arith, le)))) (numerals.negative n p le)
+  negative_is n p le = number_token (45 ∷ decimal n) (2 ^ 64 - n)
+      (inr (refl, digits_are numerals n (omega (arith, le)))) (numerals.negative n p le)
 
-  by_sign : (w n : ℕ) (small : Bool) → (small ≡ true → IsPiece (Written kind.Number (decimal n))) → (small ≡ false → IsPiece (Written kind.Number (45 ∷ decimal (2 ^ w - n))))
+  by_sign : (w n : ℕ) (small : Bool) → (small ≡ true → IsPiece (Written kind.Number (decimal n)))
+      → (small ≡ false → IsPiece (Written kind.Number (45 ∷ decimal (2 ^ w - n))))
       → IsPiece (Written kind.Number (cond small (decimal n) (45 ∷ decimal (2 ^ w - n))))
   by_sign w n true h k = h refl
   by_sign w n false h k = k refl
 
-  signed_is : (w n : ℕ) → 2 ^ w ≤ 2 ^ (w - 1) + 2 ^ (w - 1) → 2 ^ (w - 1) ≤ 2 ^ 63 → 2 ^ w ≤ 2 ^ 64 → n < 2 ^ w → IsPiece (Written kind.Number (signed w n))
+  signed_is : (w n : ℕ) → 2 ^ w ≤ 2 ^ (w - 1) + 2 ^ (w - 1) → 2 ^ (w - 1) ≤ 2 ^ 63 → 2 ^ w ≤ 2 ^ 64 → n < 2 ^ w
+      → IsPiece (Written kind.Number (signed w n))
   unfolding signed
   signed_is w n half small within lt =
       by_sign w n (ltb n (2 ^ (w - 1))) (λ h. number_is n (omega (arith, lt, within)))
-      (λ h. let le = ltb-false n (2 ^ (w - 1)) h in negative_is (2 ^ w - n) (omega (arith, lt)) (omega (arith, half, small, lt, le)))
+      (λ h. let le = ltb-false n (2 ^ (w - 1)) h in
+      negative_is (2 ^ w - n) (omega (arith, lt)) (omega (arith, half, small, lt, le)))
 
   pub integer_is : (s : Scalar) (n : ℕ) → n < 2 ^ width s → IsPiece (integer s n)
   integer_is I1 n lt = signed_is 1 n (omega arith) (omega arith) (omega arith) lt

@@ -13,7 +13,8 @@ use Rattle.ds_print_laws.specs.Placed.{placed}
 
 -- the tokens of a canonical text are read as the module, up to the last of them and with nothing out of its bound
 abbrev pub CanonicalTokensAreRead : Type 0
-CanonicalTokensAreRead = (m : Module) (end : ℕ) → Bounds m → value_at module_text (start (placed 0 (module_pieces m)) end) ≡ Ok (m, start [] end)
+CanonicalTokensAreRead = (m : Module) (end : ℕ) → Bounds m
+    → value_at module_text (start (placed 0 (module_pieces m)) end) ≡ Ok (m, start [] end)
 
 -- the tokens of a text that is written piece by piece are, as grammars see them, those of the pieces
 abbrev pub PlacedAreLexemes : Type 0

@@ -1,5 +1,6 @@
 -- The first byte that a text stands for, and the others.
-use Rattle.std.proofs.Common.{◌≡◌, ℕ, ◌+◌, ◌*◌, ◌<◌, Bool, true, false, cond, List, [], ◌∷◌, length, Option, Some, None, refl, ◌∙◌, ap, arith}
+use Rattle.std.proofs.Common.{◌≡◌, ℕ, ◌+◌, ◌*◌, ◌<◌, Bool, true, false, cond, List, [], ◌∷◌, length, Option, Some}
+use Rattle.std.proofs.Common.{None, refl, ◌∙◌, ap, arith}
 use Rattle.ds_grammar.specs.Texts.{is_double, is_coded, hexadecimal, text_value}
 use Rattle.ds_reader.specs.Texts.{next_byte}
 
@@ -8,14 +9,21 @@ pub record Front (bytes : List ℕ) (b : ℕ) (rest : List ℕ) : Type 0 where
   pub value : text_value bytes ≡ b ∷ text_value rest
   pub fewer : length rest < length bytes
 
-some_pair : (b c : ℕ) (bs cs : List ℕ) → (let o : Option (ℕ × List ℕ) = Some (b, bs) in o) ≡ Some (c, cs) → (b ≡ c) × (bs ≡ cs)
+some_pair : (b c : ℕ) (bs cs : List ℕ) → (let o : Option (ℕ × List ℕ) = Some (b, bs) in o) ≡ Some (c, cs) → (b ≡ c)
+    × (bs ≡ cs)
 some_pair b c bs cs h =
-    let p : (let x : ℕ × List ℕ = (b, bs) in x) ≡ (c, cs) = cc in (ap (λ (x : ℕ × List ℕ). x.0) p, ap (λ (x : ℕ × List ℕ). x.1) p)
+    let p : (let x : ℕ × List ℕ = (b, bs) in x) ≡ (c, cs) =
+    cc in (ap (λ (x : ℕ × List ℕ). x.0) p, ap (λ (x : ℕ × List ℕ). x.1) p)
 
-of_pair : (bytes : List ℕ) (b c : ℕ) (bs cs : List ℕ) → text_value bytes ≡ b ∷ text_value bs → length bs < length bytes → (let o : Option (ℕ × List ℕ) = Some (b, bs) in o) ≡ Some (c, cs) → Front bytes c cs
+of_pair : (bytes : List ℕ) (b c : ℕ) (bs cs : List ℕ) → text_value bytes ≡ b ∷ text_value bs
+    → length bs < length bytes → (let o : Option (ℕ × List ℕ) = Some (b, bs) in o) ≡ Some (c, cs) → Front bytes c cs
 of_pair bytes b c bs cs v l h =
     let p = some_pair b c bs cs h in
-    record { value = v ∙ ap (λ (x : ℕ). x ∷ text_value bs) p.0 ∙ ap (λ (xs : List ℕ). c ∷ text_value xs) p.1; fewer = omega (arith, l, ap length p.1) }
+    record {
+      value = v ∙ ap (λ (x : ℕ). x ∷ text_value bs) p.0
+          ∙ ap (λ (xs : List ℕ). c ∷ text_value xs) p.1;
+      fewer = omega (arith, l, ap length p.1);
+    }
 
 -- a byte and the bytes behind its spelling
 abbrev Step : Type 0
@@ -24,22 +32,30 @@ Step = Option (ℕ × List ℕ)
 abbrev step : ℕ → List ℕ → Step
 step b bs = Some (b, bs)
 
-two_by : (b c : ℕ) (t : Bool) (x : ℕ) (rest : List ℕ) → is_double b c ≡ t → cond t (step 92 []) (step b (c ∷ [])) ≡ step x rest → Front (b ∷ c ∷ []) x rest
+two_by : (b c : ℕ) (t : Bool) (x : ℕ) (rest : List ℕ) → is_double b c ≡ t
+    → cond t (step 92 []) (step b (c ∷ [])) ≡ step x rest → Front (b ∷ c ∷ []) x rest
 unfolding text_value
-two_by b c true x rest e h = of_pair (b ∷ c ∷ []) 92 x [] rest (ap (λ t. cond t (92 ∷ []) (b ∷ c ∷ [])) e) (omega arith) h
-two_by b c false x rest e h = of_pair (b ∷ c ∷ []) b x (c ∷ []) rest (ap (λ t. cond t (92 ∷ []) (b ∷ c ∷ [])) e) (omega arith) h
+two_by b c true x rest e h =
+    of_pair (b ∷ c ∷ []) 92 x [] rest (ap (λ t. cond t (92 ∷ []) (b ∷ c ∷ [])) e) (omega arith) h
+two_by b c false x rest e h =
+    of_pair (b ∷ c ∷ []) b x (c ∷ []) rest (ap (λ t. cond t (92 ∷ []) (b ∷ c ∷ [])) e) (omega arith) h
 
 abbrev three : Bool → Bool → ℕ → ℕ → ℕ → List ℕ → List ℕ
-three t u b c d ds = cond t (92 ∷ text_value (d ∷ ds)) (cond u ((16 * hexadecimal c + hexadecimal d) ∷ text_value ds) (b ∷ text_value (c ∷ d ∷ ds)))
+three t u b c d ds = cond t (92 ∷ text_value (d ∷ ds))
+    (cond u ((16 * hexadecimal c + hexadecimal d) ∷ text_value ds) (b ∷ text_value (c ∷ d ∷ ds)))
 
 three_by : (b c d : ℕ) (ds : List ℕ) (t u : Bool) (x : ℕ) (rest : List ℕ) → is_double b c ≡ t → is_coded b c d ≡ u
-    → cond t (step 92 (d ∷ ds)) (cond u (step (16 * hexadecimal c + hexadecimal d) ds) (step b (c ∷ d ∷ ds))) ≡ step x rest → Front (b ∷ c ∷ d ∷ ds) x rest
+    → cond t (step 92 (d ∷ ds)) (cond u (step (16 * hexadecimal c + hexadecimal d) ds) (step b (c ∷ d ∷ ds)))
+    ≡ step x rest → Front (b ∷ c ∷ d ∷ ds) x rest
 unfolding text_value
-three_by b c d ds true u x rest e f h = of_pair (b ∷ c ∷ d ∷ ds) 92 x (d ∷ ds) rest (ap (λ t. three t (is_coded b c d) b c d ds) e) (omega arith) h
+three_by b c d ds true u x rest e f h =
+    of_pair (b ∷ c ∷ d ∷ ds) 92 x (d ∷ ds) rest (ap (λ t. three t (is_coded b c d) b c d ds) e) (omega arith) h
 three_by b c d ds false true x rest e f h =
-    of_pair (b ∷ c ∷ d ∷ ds) (16 * hexadecimal c + hexadecimal d) x ds rest (ap (λ t. three t (is_coded b c d) b c d ds) e ∙ ap (λ u. three false u b c d ds) f) (omega arith) h
+    of_pair (b ∷ c ∷ d ∷ ds) (16 * hexadecimal c + hexadecimal d) x ds rest
+    (ap (λ t. three t (is_coded b c d) b c d ds) e ∙ ap (λ u. three false u b c d ds) f) (omega arith) h
 three_by b c d ds false false x rest e f h =
-    of_pair (b ∷ c ∷ d ∷ ds) b x (c ∷ d ∷ ds) rest (ap (λ t. three t (is_coded b c d) b c d ds) e ∙ ap (λ u. three false u b c d ds) f) (omega arith) h
+    of_pair (b ∷ c ∷ d ∷ ds) b x (c ∷ d ∷ ds) rest
+    (ap (λ t. three t (is_coded b c d) b c d ds) e ∙ ap (λ u. three false u b c d ds) f) (omega arith) h
 
 pub front : (bytes : List ℕ) (x : ℕ) (rest : List ℕ) → next_byte bytes ≡ Some (x, rest) → Front bytes x rest
 unfolding text_value
@@ -65,4 +81,5 @@ unfolding text_value
 no_front [] h = refl
 no_front (b ∷ []) h = absurd (some_none (b, []) h)
 no_front (b ∷ c ∷ []) h = absurd (two_none (is_double b c) (92, []) (b, c ∷ []) h)
-no_front (b ∷ c ∷ d ∷ ds) h = absurd (three_none (is_double b c) (is_coded b c d) (92, d ∷ ds) (16 * hexadecimal c + hexadecimal d, ds) (b, c ∷ d ∷ ds) h)
+no_front (b ∷ c ∷ d ∷ ds) h = absurd (three_none (is_double b c) (is_coded b c d) (92, d ∷ ds)
+    (16 * hexadecimal c + hexadecimal d, ds) (b, c ∷ d ∷ ds) h)

@@ -6,8 +6,8 @@ use ds_grammar::{Bound, Breach, Mark};
 use std::alloc::{AllocError, Global};
 use std::marker::Model;
 
-/// The counts of the arrays that are open in a type, and where the type begins. Contracts see the place and the list of
-/// the counts, the innermost first.
+/// The counts of the arrays that are open in a type, and where the type begins. Contracts see the place and the list
+/// of the counts, the innermost first.
 #[derive(Drop)]
 pub struct Arrays {
     place: u32,
@@ -82,7 +82,8 @@ impl Arrays {
 
     /// Closes the innermost array.
     pub fn pop(&mut self) -> Option<u32>
-        ensures { MatchOption result ((self.old.1 ≡ []) × (self.new ≡ self.old)) (λ n. (self.old.1 ≡ n ∷ self.new.1) × (self.new.0 ≡ self.old.0)) }
+        ensures { MatchOption result ((self.old.1 ≡ []) × (self.new ≡ self.old))
+            (λ n. (self.old.1 ≡ n ∷ self.new.1) × (self.new.0 ≡ self.old.0)) }
     {
         self.counts.pop()
     }

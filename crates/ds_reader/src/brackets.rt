@@ -1,5 +1,6 @@
 //! The brackets that are open in a balanced group.
-ghost use Rattle.std.specs.Prelude.{◌≡◌, Bool, List, ℕ, [], ◌∷◌, Some, None, IfOk, MatchBool, MatchOption, IsTrue, ◌↔◌};
+ghost use Rattle.std.specs.Prelude.{◌≡◌, Bool, List, ℕ, [], ◌∷◌, Some, None, IfOk, MatchBool, MatchOption, IsTrue};
+ghost use Rattle.std.specs.Prelude.{◌↔◌};
 ghost use Rattle.ds_grammar.specs.Reading.{first_value};
 ghost use Rattle.ds_grammar.specs.Rows.{open_behind, opened_by, closed_by};
 
@@ -54,9 +55,12 @@ impl Brackets {
         self.open.pop()
     }
 
-    /// Goes on behind a token. `false` where the group does not go on with it: none is open, or the token closes another bracket.
+    /// Goes on behind a token. `false` where the group does not go on with it: none is open, or the token closes
+    /// another bracket.
     pub fn step(&mut self, kind: TokenKind, bytes: &[u8]) -> Result<bool, AllocError>
-        ensures { IfOk result (λ on. MatchBool on (open_behind self.old kind bytes.now ≡ Some self.new) ((open_behind self.old kind bytes.now ≡ None) × (self.new ≡ self.old))) }
+        ensures { IfOk result
+            (λ on. MatchBool on (open_behind self.old kind bytes.now ≡ Some self.new)
+            ((open_behind self.old kind bytes.now ≡ None) × (self.new ≡ self.old))) }
     {
         match self.pop() {
             None => Ok(false),
@@ -113,7 +117,8 @@ fn closes(kind: TokenKind, bytes: &[u8], closer: u8) -> Option<bool>
 pub fn goes_on(brackets: &mut Brackets, rest: &Rest) -> Result<bool, AllocError>
     ensures { IfOk result (λ on. MatchBool on
         (first_value (λ t. open_behind brackets.old t.kind t.bytes) rest.now.left ≡ Some brackets.new)
-        ((first_value (λ t. open_behind brackets.old t.kind t.bytes) rest.now.left ≡ None) × (brackets.new ≡ brackets.old))) }
+        ((first_value (λ t. open_behind brackets.old t.kind t.bytes) rest.now.left ≡ None)
+        × (brackets.new ≡ brackets.old))) }
 {
     match rest.peek() {
         Some((kind, bytes, _)) => brackets.step(kind, bytes),

@@ -142,7 +142,8 @@ impl<'a> Rest<'a> {
         }
     }
 
-    /// This value where no token is left, or a fault: that of the least breach, or else that of the first token that is left.
+    /// This value where no token is left, or a fault: that of the least breach, or else that of the first token that
+    /// is left.
     pub fn finish_whole<A: Drop>(self, value: A) -> Result<A, ParseFault>
         ensures { result ≡ whole_by self.entry.worst self.entry.end value self.entry.left }
     {

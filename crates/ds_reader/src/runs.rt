@@ -87,7 +87,8 @@ pub fn run_rest<'a>(
     }
 }
 
-/// A run of ignored words, each with a group behind it or without, of `align` with a number and of `#N`, where a group may stand first or not.
+/// A run of ignored words, each with a group behind it or without, of `align` with a number and of `#N`, where a
+/// group may stand first or not.
 #[tactic(auto, unfolding(ds_grammar::specs::Rows::ignored_from))]
 pub fn ignored_from<'a>(
     alloc: Global,

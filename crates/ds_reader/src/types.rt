@@ -177,8 +177,10 @@ fn closed(alloc: Global, too_deep: bool, count: u32, ty: Ty) -> Result<Ty, Alloc
 /// The count of the innermost array, where the next token closes it. The array is closed.
 fn next_end(opened: &mut Arrays, rest: &Rest) -> Option<u32>
     ensures { MatchOption result
-        ((first_value (λ t. types.closes opened.old.1 t.kind t.bytes) rest.now.left ≡ None) × (opened.new ≡ opened.old))
-        (λ n. (first_value (λ t. types.closes opened.old.1 t.kind t.bytes) rest.now.left ≡ Some tt) × (opened.old.1 ≡ n ∷ opened.new.1)) }
+        ((first_value (λ t. types.closes opened.old.1 t.kind t.bytes) rest.now.left ≡ None)
+        × (opened.new ≡ opened.old))
+        (λ n. (first_value (λ t. types.closes opened.old.1 t.kind t.bytes) rest.now.left ≡ Some tt)
+        × (opened.old.1 ≡ n ∷ opened.new.1)) }
 {
     match rest.peek() {
         Some((TokenKind::Punct, b"]", _)) => opened.pop(),
@@ -212,7 +214,8 @@ pub fn closed_type<'a>(
     }
 }
 
-/// `void`, a type of a register, an array, or the name of a struct; `void` alone may be forbidden. Where it is not `void` its first token
+/// `void`, a type of a register, an array, or the name of a struct; `void` alone may be forbidden. Where it is not
+/// `void` its first token
 /// takes a number, with this mark.
 #[tactic(auto, unfolding(ds_grammar::specs::Types::type_of))]
 pub fn type_of<'a>(

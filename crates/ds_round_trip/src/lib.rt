@@ -15,7 +15,8 @@ use std::alloc::Global;
 #[cfg(test)]
 mod tests;
 
-/// The module that `parse` gives of the text that `print` gives of a module: the same module. `Memory` comes where there is not enough memory.
+/// The module that `parse` gives of the text that `print` gives of a module: the same module. `Memory` comes where
+/// there is not enough memory.
 pub fn parse_printed(alloc: Global, module: &Module) -> Result<Module, ParseFault>
     requires bounds { Bounds «module».now }
     requires small { length (canon «module».now) ≤ 8388608 }

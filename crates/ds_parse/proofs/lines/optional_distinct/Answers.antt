@@ -10,6 +10,8 @@ use Rattle.ds_parse.proofs.lines.optional_distinct.Goals as goal
 pub returns-then-is_next_word : goal.returns-then-is_next_word
 unfolding optional_distinct
 returns-then-is_next_word c =
-    c.optionals_are_read.ensures no_value no_value (λ t. fact (is_word (codes "distinct") t.kind t.bytes)) (λ u. Done tt) c.args.rest
-    ∙ ap (λ o. optional_at (λ v q. Ok (tt, q)) o c.args.rest) (sym c.is_next_word.ensures ∙ ap fact c.if-is_next_word.true)
+    c.optionals_are_read.ensures no_value no_value (λ t. fact (is_word (codes "distinct") t.kind t.bytes))
+    (λ u. Done tt) c.args.rest
+    ∙ ap (λ o. optional_at (λ v q. Ok (tt, q)) o c.args.rest)
+    (sym c.is_next_word.ensures ∙ ap fact c.if-is_next_word.true)
     ∙ ap (λ q. Ok (Some tt, q)) (sym c.past.ensures)

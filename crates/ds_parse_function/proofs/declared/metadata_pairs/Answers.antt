@@ -9,6 +9,9 @@ use Rattle.ds_parse_function.proofs.declared.metadata_pairs.Goals as goal
 pub loop-rest-preserved : goal.loop-rest-preserved
 unfolding metadata_pairs
 loop-rest-preserved c =
-    sym (c.runs_go_on.ensures.items no_value no_value (λ u t. fact (is_meta t.kind)) (λ u v. One {a = no_value} (λ t. fact (is_meta t.kind))) tt tt tt c.loop-rest.rest c.in_ok-rest.rest
-    (sym c.is_next_meta.ensures ∙ ap fact c.loop-rest-test.true) (ap (value_at {a = no_value} (One {a = no_value} (λ t. fact (is_meta t.kind)))) (sym c.past.ensures) ∙ c.in_ok-rest.ensures))
+    sym (c.runs_go_on.ensures.items no_value no_value (λ u t. fact (is_meta t.kind))
+    (λ u v. One {a = no_value} (λ t. fact (is_meta t.kind))) tt tt tt c.loop-rest.rest c.in_ok-rest.rest
+    (sym c.is_next_meta.ensures ∙ ap fact c.loop-rest-test.true)
+    (ap (value_at {a = no_value} (One {a = no_value} (λ t. fact (is_meta t.kind)))) (sym c.past.ensures)
+    ∙ c.in_ok-rest.ensures))
     ∙ c.loop-rest.invariant

@@ -8,13 +8,17 @@ use Rattle.ds_parse_function.proofs.parameters.parameters_from.Goals as goal
 pub loop-item-preserved : goal.loop-item-preserved
 unfolding parameters_from
 loop-item-preserved c =
-    sym (c.runs_go_on.ensures.items some_params (maybe (both_of a_scalar a_number)) (λ s t. next_parameter s.params t.kind t.bytes t.at) parameters_more
+    sym (c.runs_go_on.ensures.items some_params (maybe (both_of a_scalar a_number))
+    (λ s t. next_parameter s.params t.kind t.bytes t.at) parameters_more
     c.loop-item.params c.in_ok-more.more c.in-Some.item c.loop-item.rest c.in_ok-more.behind
-    (sym c.in-Some.ensures) (ap (value_at (parameters_more c.loop-item.params c.in-Some.item)) (sym c.past.ensures) ∙ c.in_ok-more.ensures))
+    (sym c.in-Some.ensures) (ap (value_at (parameters_more c.loop-item.params c.in-Some.item)) (sym c.past.ensures)
+    ∙ c.in_ok-more.ensures))
     ∙ c.loop-item.invariant
 
 pub loop-item-smaller : goal.loop-item-smaller
 loop-item-smaller c =
-    c.items_take_tokens.ensures (maybe (both_of a_scalar a_number)) some_params (λ t. next_parameter c.loop-item.params.params t.kind t.bytes t.at) c.in-Some.item
+    c.items_take_tokens.ensures (maybe (both_of a_scalar a_number)) some_params
+    (λ t. next_parameter c.loop-item.params.params t.kind t.bytes t.at) c.in-Some.item
     (parameters_more c.loop-item.params c.in-Some.item) c.in_ok-more.more c.loop-item.rest c.in_ok-more.behind
-    (sym c.in-Some.ensures) (ap (value_at (parameters_more c.loop-item.params c.in-Some.item)) (sym c.past.ensures) ∙ c.in_ok-more.ensures)
+    (sym c.in-Some.ensures) (ap (value_at (parameters_more c.loop-item.params c.in-Some.item)) (sym c.past.ensures)
+    ∙ c.in_ok-more.ensures)

@@ -1,5 +1,5 @@
--- A call is made with one bracket less, or from a function that stands above the called one. What is read from here, behind these elements, is
--- what is read from the first token on.
+-- A call is made with one bracket less, or from a function that stands above the called one. What is read from here,
+-- behind these elements, is what is read from the first token on.
 use Rattle.std.proofs.Common.{◌≡◌, ◌+◌, ◌*◌, length, []}
 use Rattle.std.specs.Option.{option_copied}
 use Rattle.ds_grammar.specs.Reading.{value_at}

@@ -7,7 +7,9 @@ use Rattle.ds_parse_instr.proofs.control.cases.Goals as goal
 
 pub cases-preserved : goal.cases-preserved
 cases-preserved c =
-    sym (cases_more c.runs_go_on.ensures.items c.args.ty c.cases.cases c.in_ok-more.more c.cases.rest c.in_ok-more.behind
-    (ap (λ w. first_value (λ t. fact (is_word w t.kind t.bytes)) c.cases.rest.left) (sym c.scalar_word.ensures) ∙ sym c.is_next_word.ensures ∙ ap fact c.cases-test.true)
+    sym (cases_more c.runs_go_on.ensures.items c.args.ty c.cases.cases c.in_ok-more.more c.cases.rest
+    c.in_ok-more.behind
+    (ap (λ w. first_value (λ t. fact (is_word w t.kind t.bytes)) c.cases.rest.left) (sym c.scalar_word.ensures)
+    ∙ sym c.is_next_word.ensures ∙ ap fact c.cases-test.true)
     (ap (value_at (case_rest c.args.ty c.cases.cases)) (sym c.past.ensures) ∙ c.in_ok-more.ensures))
     ∙ c.cases.invariant

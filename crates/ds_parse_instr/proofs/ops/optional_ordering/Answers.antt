@@ -10,6 +10,7 @@ use Rattle.ds_parse_instr.proofs.ops.optional_ordering.Goals as goal
 pub returns-in-Some : goal.returns-in-Some
 unfolding optional_ordering
 returns-in-Some c =
-    c.optionals_are_read.ensures no_value no_value (λ t. word_in ordering_words t.kind t.bytes) (λ u. Done tt) c.args.rest
+    c.optionals_are_read.ensures no_value no_value (λ t. word_in ordering_words t.kind t.bytes)
+    (λ u. Done tt) c.args.rest
     ∙ ap (λ o. optional_at (λ v q. Ok (tt, q)) o c.args.rest) (sym c.in-Some.ensures)
     ∙ ap (λ q. Ok (Some tt, q)) (sym c.past.ensures)

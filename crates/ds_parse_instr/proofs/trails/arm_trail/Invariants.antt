@@ -6,7 +6,8 @@ use Rattle.ds_grammar.specs.Instructions.{arms_from}
 use Rattle.ds_parse_instr.proofs.trails.arm_trail.Given as goal
 
 abbrev pub invariant-loop-ending : goal.invariant-loop-ending
-invariant-loop-ending l = value_at (arms_from l.ty (l.arms, l.stage)) l.rest ≡ value_at (arms_from l.ty (l.fn.first ∷ [], Items)) l.fn.rest
+invariant-loop-ending l =
+    value_at (arms_from l.ty (l.arms, l.stage)) l.rest ≡ value_at (arms_from l.ty (l.fn.first ∷ [], Items)) l.fn.rest
 
 abbrev pub decreases-loop-ending : goal.decreases-loop-ending
 decreases-loop-ending l = length l.rest.left

@@ -19,4 +19,5 @@ loop-byte-preserved c =
 pub returns : goal.returns
 returns c =
     let old = c.loop-byte.value.items in
-    sym (append-nil old) ∙ ap (λ (xs : List ℕ). old ++ xs) (sym (no_front c.loop-byte.rest.now (sym c.in_default.ensures))) ∙ c.loop-byte.invariant
+    sym (append-nil old) ∙ ap (λ (xs : List ℕ). old ++ xs)
+    (sym (no_front c.loop-byte.rest.now (sym c.in_default.ensures))) ∙ c.loop-byte.invariant

@@ -5,7 +5,8 @@ use Rattle.ds_grammar.specs.Types.{array_ends}
 use Rattle.ds_reader.proofs.types.closed_type.Given as goal
 
 abbrev pub invariant-loop-count : goal.invariant-loop-count
-invariant-loop-count l = value_at (array_ends l.too_deep (l.opened.1, l.ty)) l.rest ≡ value_at (array_ends l.too_deep (l.fn.opened.1, l.fn.base)) l.fn.rest
+invariant-loop-count l = value_at (array_ends l.too_deep (l.opened.1, l.ty)) l.rest
+    ≡ value_at (array_ends l.too_deep (l.fn.opened.1, l.fn.base)) l.fn.rest
 
 abbrev pub decreases-loop-count : goal.decreases-loop-count
 decreases-loop-count l = length l.opened.1
