@@ -103,20 +103,10 @@ Defines f name t =
 
 -- integers, and those of 8 bits or more
 abbrev pub IsInteger : Scalar → Type 0
-IsInteger I1 = Unit {0}
-IsInteger I8 = Unit {0}
-IsInteger I16 = Unit {0}
-IsInteger I32 = Unit {0}
-IsInteger I64 = Unit {0}
-IsInteger Ptr = ⊥
+IsInteger s = s ≡ Ptr → ⊥
 
 abbrev pub IsWide : Scalar → Type 0
-IsWide I1 = ⊥
-IsWide I8 = Unit {0}
-IsWide I16 = Unit {0}
-IsWide I32 = Unit {0}
-IsWide I64 = Unit {0}
-IsWide Ptr = ⊥
+IsWide s = IsInteger s × (s ≡ I1 → ⊥)
 
 -- the type is that of words in memory: no truth value is loaded or stored
 abbrev pub IsStored : Scalar → Type 0
@@ -138,10 +128,7 @@ Converts cast.IntToPtr from to = IsWide from × (to ≡ Ptr)
 
 -- the type has values
 abbrev pub IsNoVoid : Ty → Type 0
-IsNoVoid Void = ⊥
-IsNoVoid (One s) = Unit {0}
-IsNoVoid (Array' count _ of) = Unit {0}
-IsNoVoid (Struct name) = Unit {0}
+IsNoVoid t = t ≡ Void → ⊥
 
 module _ (m : Module) where
   -- each index leads into the type to which the one before leads

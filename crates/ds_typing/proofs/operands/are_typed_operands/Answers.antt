@@ -6,6 +6,16 @@ use Rattle.ds_shape.specs.Operands.{operands_of, typed}
 use Rattle.ds_shape.specs.Types.{IsTypedOperand}
 use Rattle.ds_typing.proofs.operands.are_typed_operands.Goals as goal
 
+pub returns-in-Bin : goal.returns-in-Bin
+returns-in-Bin c =
+    subst (λ op. IsTrue c.are_two.result ↔ All (IsTypedOperand c.args.entities.now c.args.locals.now) (operands_of op)) (sym c.in-Bin.is)
+    c.are_two.ensures
+
+pub returns-in-Icmp : goal.returns-in-Icmp
+returns-in-Icmp c =
+    subst (λ op. IsTrue c.are_two-in-Icmp.result ↔ All (IsTypedOperand c.args.entities.now c.args.locals.now) (operands_of op)) (sym c.in-Icmp.is)
+    c.are_two-in-Icmp.ensures
+
 pub returns-in-Select : goal.returns-in-Select
 returns-in-Select c =
     subst (λ op. IsTrue c.are_three.result ↔ All (IsTypedOperand c.args.entities.now c.args.locals.now)
