@@ -1,5 +1,4 @@
 pub mod Deeper
-pub mod Standing
 mod Tried
 pub mod TriedModule
 mod TriedWords
