@@ -1,7 +1,6 @@
 -- Why a text gives no module.
 use Rattle.std.specs.Prelude.{ℕ, List, length}
 use Rattle.ds_lex.specs.declared.fault.LexFault.{LexFault}
-use Rattle.ds_lex.specs.declared.fault.LexFault.TheVariants.{BadByte, BadName, BadNumber, OpenText}
 use Rattle.ds_lex.specs.declared.fault.LexFault.TheVariants as lex
 use Rattle.ds_lex.specs.declared.token.Token.{Token}
 use Rattle.ds_lex.specs.Lexed.{Lexed}
@@ -30,8 +29,5 @@ HasParseFault text fault.Memory = ⊥
 
 -- the fault of the parser by that of the lexer
 abbrev pub parse_fault : LexFault → ParseFault
-parse_fault (BadByte at) = fault.Lex (BadByte at)
-parse_fault (BadName at) = fault.Lex (BadName at)
-parse_fault (BadNumber at) = fault.Lex (BadNumber at)
-parse_fault (OpenText at) = fault.Lex (OpenText at)
 parse_fault lex.Memory = fault.Memory
+parse_fault other = fault.Lex other

@@ -47,11 +47,8 @@ fn lexical(fault: LexFault) -> ParseFault
     ensures { result ≡ parse_fault fault }
 {
     match fault {
-        LexFault::BadByte { at } => ParseFault::Lex(LexFault::BadByte { at }),
-        LexFault::BadName { at } => ParseFault::Lex(LexFault::BadName { at }),
-        LexFault::BadNumber { at } => ParseFault::Lex(LexFault::BadNumber { at }),
-        LexFault::OpenText { at } => ParseFault::Lex(LexFault::OpenText { at }),
         LexFault::Memory => ParseFault::Memory,
+        other => ParseFault::Lex(other),
     }
 }
 
