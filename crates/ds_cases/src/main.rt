@@ -16,7 +16,8 @@
 //!
 //! and `NAME: ok` to the file `stdout`, in the order of the files' names. What is wanted comes from the rules of the
 //! program, found by hand, never from what it printed. `rt try -- $PWD/data FILE..` in this crate runs the cases of
-//! these files with no proof; `cd data && ../out/ds_cases` runs all once the crate is proved.
+//! these files with no proof; once the crate is proved, `cd data && ../out/ds_cases` runs all in a second. Where none
+//! failed, what that prints is the new `stdout`.
 //!
 //! # The format
 //!
