@@ -45,6 +45,7 @@
 #![tactic(auto)]
 
 mod case;
+mod error;
 mod files;
 mod line;
 mod piece;
@@ -54,7 +55,7 @@ mod tally;
 mod text;
 mod trial;
 
-use anyhow::Result;
+use error::CaseError;
 use files::read_text;
 use script::read_cases;
 use std::env::Env;
@@ -69,7 +70,7 @@ use trial::try_case;
 const UNREADABLE: u8 = 2;
 
 /// The words behind the program's name.
-fn words_of(rt: &(impl Env + AllocGlobal)) -> Result<Vec<String>> {
+fn words_of(rt: &(impl Env + AllocGlobal)) -> Result<Vec<String>, CaseError> {
     let mut words = Vec::new(rt.alloc());
     for word in env::args(rt)?.skip(1) {
         words.push(word)?;
@@ -78,7 +79,10 @@ fn words_of(rt: &(impl Env + AllocGlobal)) -> Result<Vec<String>> {
 }
 
 /// The files of cases in a folder, in the order of their names.
-fn files_in<R: Files + AllocGlobal + Clone + Drop>(rt: &R, folder: &str) -> Result<Vec<String>> {
+fn files_in<R: Files + AllocGlobal + Clone + Drop>(
+    rt: &R,
+    folder: &str,
+) -> Result<Vec<String>, CaseError> {
     let mut files = Vec::new(rt.alloc());
     for entry in fs::read_dir(rt, folder)? {
         let entry = entry?;
@@ -96,7 +100,7 @@ fn try_files<R: Files + Threads + Sync + Print + AllocGlobal>(
     rt: &R,
     folder: &str,
     files: &[String],
-) -> Result<Tally> {
+) -> Result<Tally, CaseError> {
     let mut tally = Tally::default();
     for file in files {
         let text = read_text(rt, folder, file.as_str())?;
@@ -111,7 +115,7 @@ fn try_files<R: Files + Threads + Sync + Print + AllocGlobal>(
 /// Tries all cases of a folder, or those of the files that are named behind it, and prints how many there were.
 fn try_all<R: Files + Env + Threads + Sync + Print + AllocGlobal + Clone + Drop>(
     rt: &R,
-) -> Result<Tally> {
+) -> Result<Tally, CaseError> {
     let words = words_of(rt)?;
     let tally = match words.as_slice() {
         [] => try_files(rt, ".", files_in(rt, ".")?.as_slice())?,
@@ -130,7 +134,7 @@ fn main(rt: HostRuntime) -> ExitCode {
     match try_all(&rt) {
         Ok(tally) => ExitCode::from(tally.status()),
         Err(error) => {
-            let _ = eprintln!(rt; "{error:#}");
+            let _ = eprintln!(rt; "{error}");
             ExitCode::from(UNREADABLE)
         }
     }

@@ -3,7 +3,6 @@ ghost use Rattle.std.specs.Prelude.{◌≡◌, ◌++◌, OnOk};
 ghost use Rattle.ds_cases.specs.Texts.{repeated};
 
 use crate::text::push_with;
-use anyhow::{Context, Result};
 use std::alloc::{AllocError, Global};
 
 /// What stands for the number of a time.
@@ -56,13 +55,15 @@ fn times_of(text: &str) -> Option<(u32, &str)> {
     Some((times.parse::<u32>().ok()?, bytes))
 }
 
-/// Adds bytes by their hexadecimal digits.
-pub fn push_hexadecimal(text: &mut Vec<u8>, bytes: &str) -> Result<()> {
+/// Adds bytes by their hexadecimal digits, up to the first that are none: it answers whether all were added.
+pub fn push_hexadecimal(text: &mut Vec<u8>, bytes: &str) -> Result<bool, AllocError> {
     for digits in bytes.split_whitespace() {
-        let byte = u8::from_str_radix(digits, 16).context("no hexadecimal byte")?;
-        text.push(byte)?;
+        match u8::from_str_radix(digits, 16) {
+            Ok(byte) => text.push(byte)?,
+            Err(_) => return Ok(false),
+        }
     }
-    Ok(())
+    Ok(true)
 }
 
 /// Adds bytes so many times.
@@ -76,7 +77,12 @@ pub fn push_repeated(text: &mut Vec<u8>, times: u32, bytes: &[u8]) -> Result<(),
 }
 
 /// Adds bytes so many times, each with its number.
-pub fn push_numbered(alloc: Global, text: &mut Vec<u8>, times: u32, bytes: &[u8]) -> Result<()> {
+pub fn push_numbered(
+    alloc: Global,
+    text: &mut Vec<u8>,
+    times: u32,
+    bytes: &[u8],
+) -> Result<(), AllocError> {
     for number in 0..times {
         let digits = format!(in alloc; "{number}")?;
         push_with(text, bytes, NUMBER, digits.as_bytes())?;

@@ -1,26 +1,26 @@
 //! The cases of a file.
 use crate::case::Case;
+use crate::error::CaseError;
 use crate::files::read_bytes;
 use crate::line::{Line, line_of};
 use crate::piece::{Piece, push_hexadecimal, push_numbered, push_repeated};
 use crate::settings::{AT_FIRST, Settings};
-use anyhow::{Context, Result, bail};
 use std::rt::Files;
 
-/// Adds a piece to a text.
+/// Adds a piece to a text, and answers whether it could be read.
 fn push_piece<R: Files + AllocGlobal>(
     rt: &R,
     folder: &str,
     text: &mut Vec<u8>,
     piece: Piece<'_>,
-) -> Result<()> {
+) -> Result<bool, CaseError> {
     match piece {
         Piece::Line(bytes) => {
             text.extend_from_slice(bytes.as_bytes())?;
             text.push(b'\n')?;
         }
         Piece::Text(bytes) => text.extend_from_slice(bytes.as_bytes())?,
-        Piece::Hexadecimal(bytes) => push_hexadecimal(text, bytes)?,
+        Piece::Hexadecimal(bytes) => return Ok(push_hexadecimal(text, bytes)?),
         Piece::Repeated(times, bytes) => push_repeated(text, times, bytes.as_bytes())?,
         Piece::Numbered(times, bytes) => push_numbered(rt.alloc(), text, times, bytes.as_bytes())?,
         Piece::File(file) => {
@@ -28,11 +28,11 @@ fn push_piece<R: Files + AllocGlobal>(
             text.extend_from_slice(bytes.as_slice())?;
         }
     }
-    Ok(())
+    Ok(true)
 }
 
-/// Changes a setting. Any other line is one of a case, which stands before the first.
-fn set<'a>(settings: &mut Settings<'a>, line: Line<'a>) -> Result<()> {
+/// Changes a setting, and answers whether the line says one. Any other line is one of a case.
+fn set<'a>(settings: &mut Settings<'a>, line: Line<'a>) -> bool {
     match line {
         Line::Words(words) => settings.words = words,
         Line::Status(status) => settings.status = status,
@@ -40,29 +40,48 @@ fn set<'a>(settings: &mut Settings<'a>, line: Line<'a>) -> Result<()> {
         Line::Most(most) => settings.most = most,
         Line::FailRead(number) => settings.fail_read = number,
         Line::FailWrite(number) => settings.fail_write = number,
-        _ => bail!("a line of a case before the first"),
+        _ => return false,
     }
-    Ok(())
+    true
 }
 
-/// Adds what a line says to the case that it stands in.
+/// Adds what a line says to the case that it stands in, and answers whether it could be read.
 fn add<'a, R: Files + AllocGlobal>(
     rt: &R,
     folder: &str,
     case: &mut Case<'a>,
     line: Line<'a>,
-) -> Result<()> {
+) -> Result<bool, CaseError> {
     match line {
         Line::Each(words) => {
             for word in words.split_whitespace() {
                 case.each.push(word)?;
             }
         }
-        Line::Input(piece) => push_piece(rt, folder, &mut case.input, piece)?,
-        Line::Output(piece) => push_piece(rt, folder, &mut case.output, piece)?,
-        setting => set(&mut case.settings, setting)?,
+        Line::Input(piece) => return push_piece(rt, folder, &mut case.input, piece),
+        Line::Output(piece) => return push_piece(rt, folder, &mut case.output, piece),
+        setting => return Ok(set(&mut case.settings, setting)),
     }
-    Ok(())
+    Ok(true)
+}
+
+/// Takes a line: a case begins, or it is added to the last one, or changes the settings of all cases from here on. The answer is whether it could be read.
+fn take<'a, R: Files + AllocGlobal>(
+    rt: &R,
+    folder: &str,
+    settings: &mut Settings<'a>,
+    cases: &mut Vec<Case<'a>>,
+    line: Line<'a>,
+) -> Result<bool, CaseError> {
+    match line {
+        Line::Nothing => {}
+        Line::Case(name) => cases.push(Case::new(rt.alloc(), name, *settings))?,
+        other => match cases.last_mut() {
+            Some(case) => return add(rt, folder, case, other),
+            None => return Ok(set(settings, other)),
+        },
+    }
+    Ok(true)
 }
 
 /// The cases of a file's text.
@@ -76,19 +95,19 @@ pub fn read_cases<'a, R: Files + AllocGlobal>(
     folder: &str,
     file: &str,
     text: &'a str,
-) -> Result<Vec<Case<'a>>> {
+) -> Result<Vec<Case<'a>>, CaseError> {
     let mut settings = AT_FIRST;
     let mut cases: Vec<Case<'a>> = Vec::new(rt.alloc());
     for (index, line) in text.lines().enumerate() {
-        let number = index.saturating_add(1);
-        let said = line_of(line).context(format_args!("{file}:{number}: no line of the format"))?;
-        match said {
-            Line::Nothing => {}
-            Line::Case(name) => cases.push(Case::new(rt.alloc(), name, settings))?,
-            other => match cases.last_mut() {
-                Some(case) => add(rt, folder, case, other)?,
-                None => set(&mut settings, other)?,
-            },
+        let is_read = match line_of(line) {
+            Some(said) => take(rt, folder, &mut settings, &mut cases, said)?,
+            None => false,
+        };
+        if !is_read {
+            return Err(CaseError::Line {
+                file: String::from_str(rt.alloc(), file)?,
+                number: index.saturating_add(1),
+            });
         }
     }
     Ok(cases)

@@ -2,10 +2,10 @@
 ghost use Rattle.std.specs.Prelude.{◌≡◌, ◌<◌, ◌↔◌, IsTrue};
 
 use crate::case::Case;
+use crate::error::CaseError;
 use crate::settings::Settings;
 use crate::tally::Tally;
 use crate::text::push_with;
-use anyhow::Result;
 use ds_io::{MemSink, MemSource};
 use ds_main::{FreePace, dangsan_main};
 use std::alloc::{AllocError, Global};
@@ -65,7 +65,12 @@ fn is_wanted(status: u8, wanted_status: u8, text: &[u8], wanted_text: &[u8]) -> 
 }
 
 /// Prints a status and a text.
-fn show<R: Print + AllocGlobal>(rt: &R, what: &str, status: u8, text: &[u8]) -> Result<()> {
+fn show<R: Print + AllocGlobal>(
+    rt: &R,
+    what: &str,
+    status: u8,
+    text: &[u8],
+) -> Result<(), CaseError> {
     let text = String::from_utf8_lossy(rt.alloc(), text)?;
     println!(rt; "  {what} status {status} and\n{text}")?;
     Ok(())
@@ -78,7 +83,7 @@ fn try_call<R: Threads + Sync + Print + AllocGlobal>(
     settings: &Settings<'_>,
     input: Vec<u8>,
     wanted: &[u8],
-) -> Result<bool> {
+) -> Result<bool, CaseError> {
     let (status, sink) = call(rt, settings, input)?;
     if is_wanted(status, settings.status, sink.taken(), wanted) {
         println!(rt; "{name}: ok")?;
@@ -95,7 +100,7 @@ pub fn try_case<R: Threads + Sync + Print + AllocGlobal>(
     rt: &R,
     case: &Case<'_>,
     tally: &mut Tally,
-) -> Result<()> {
+) -> Result<(), CaseError> {
     let alloc = rt.alloc();
     for word in &case.each {
         let name = format!(in alloc; "{} {word}", case.name)?;
