@@ -65,7 +65,8 @@ fn add<'a, R: Files + AllocGlobal>(
     Ok(true)
 }
 
-/// Takes a line: a case begins, or it is added to the last one, or changes the settings of all cases from here on. The answer is whether it could be read.
+/// Takes a line: a case begins, or it is added to the last one, or changes the settings of all cases from here on.
+/// The answer is whether it could be read.
 fn take<'a, R: Files + AllocGlobal>(
     rt: &R,
     folder: &str,
