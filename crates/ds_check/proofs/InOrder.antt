@@ -9,8 +9,8 @@ use Rattle.ds_ast.specs.declared.instr.Instr.{Instr}
 use Rattle.ds_ast.specs.declared.module.Module.{Module}
 use Rattle.ds_ast.specs.declared.module.Function.{Function}
 use Rattle.ds_shape.specs.Placed.{Placed, placed_of}
-use Rattle.ds_blocks.specs.declared.sites.Site.{Site}
-use Rattle.ds_blocks.specs.Sites.{IsSite}
+use Rattle.ds_check_blocks.specs.declared.sites.Site.{Site}
+use Rattle.ds_check_blocks.specs.Sites.{IsSite}
 use Rattle.ds_check.specs.declared.instr.Rule.{Rule}
 use Rattle.ds_check.specs.declared.instr.Rule.TheVariants.{Defined, Typed, GoodPhi}
 use Rattle.ds_check.specs.Fault.{KeepsAll}

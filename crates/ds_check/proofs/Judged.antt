@@ -17,8 +17,8 @@ use Rattle.ds_shape.specs.Flow.{arms_of}
 use Rattle.ds_shape.specs.Types.{IsTypedOp}
 use Rattle.ds_shape.specs.Placed.{values_of, Placed, KeepsDefined, KeepsTypes, KeepsPhi, IsPhi, IsGoodPhi, IsDefined}
 use Rattle.ds_shape.specs.Placed.{GivesRegister}
-use Rattle.ds_blocks.specs.declared.sites.Site.{Site}
-use Rattle.ds_blocks.specs.Sites.{IsSite}
+use Rattle.ds_check_blocks.specs.declared.sites.Site.{Site}
+use Rattle.ds_check_blocks.specs.Sites.{IsSite}
 use Rattle.ds_check.specs.Front.{IsFront, AreFronts}
 use Rattle.ds_check.specs.declared.instr.Rule.TheVariants.{GoodPhi}
 use Rattle.ds_check.specs.Instr.{IsBroken}

@@ -11,9 +11,9 @@ ghost use Rattle.ds_check.specs.declared.fault.TypeFault.TheVariants as faults;
 use crate::fault::TypeFault;
 use crate::functions::check_function;
 use ds_ast::{Function, Module};
-use ds_scope::Entities;
+use ds_check_names::Entities;
+use ds_check_types::is_initial;
 use ds_shape::Shapes;
-use ds_typing::is_initial;
 use std::alloc::Global;
 
 /// Whether each global has the type of its initialiser.

@@ -10,7 +10,7 @@ use crate::fault::TypeFault;
 use crate::main_function::has_main;
 use crate::names::{check_counts, check_externals, entities_of};
 use ds_ast::Module;
-use ds_scope::Entities;
+use ds_check_names::Entities;
 use ds_shape::Shapes;
 use std::alloc::Global;
 

@@ -5,7 +5,7 @@ ghost use Rattle.ds_shape.specs.Externals.{parameter_types, signature, HasOneOf,
 ghost use Rattle.ds_shape.specs.Accepted.{IsReserved};
 
 use ds_ast::{Function, Name, Param, Scalar, Ty};
-use ds_scope::is_called;
+use ds_check_names::is_called;
 
 /// Whether parameters have these types.
 fn have_types(params: &[Param], types: &[Scalar]) -> bool

@@ -3,7 +3,7 @@ ghost use Rattle.std.specs.Prelude.{IfOk};
 ghost use Rattle.ds_check.specs.Front.{IsFront, AreFronts};
 
 use ds_ast::{Block, Instr};
-use ds_blocks::is_phi;
+use ds_check_blocks::is_phi;
 use std::alloc::{AllocError, Global};
 
 /// How many phis stand at the front.

@@ -2,17 +2,17 @@
 ghost use Rattle.std.specs.Prelude.{◌≡◌, ◌<◌, ◌^◌, ◌↔◌, ℕ, All, IfOk, IsTrue, length};
 ghost use Rattle.ds_shape.specs.Types.{IsTypedOp};
 ghost use Rattle.ds_shape.specs.Placed.{Placed as placed, KeepsPhi, GivesRegister, IsPhi};
-ghost use Rattle.ds_blocks.specs.Predecessors.{ArePredecessorsOf};
-ghost use Rattle.ds_blocks.specs.Sites.{IsSite};
+ghost use Rattle.ds_check_blocks.specs.Predecessors.{ArePredecessorsOf};
+ghost use Rattle.ds_check_blocks.specs.Sites.{IsSite};
 ghost use Rattle.ds_check.specs.Front.{AreFronts};
 ghost use Rattle.ds_check.specs.Instr.{IsBroken};
 
 use crate::operands::are_operands_defined;
 use ds_ast::{Function, Op, Ty};
-use ds_blocks::{Predecessors, Site, is_good_phi, is_phi};
-use ds_scope::{Entities, Locals};
+use ds_check_blocks::{Predecessors, Site, is_good_phi, is_phi};
+use ds_check_names::{Entities, Locals};
+use ds_check_types::is_typed;
 use ds_shape::Shapes;
-use ds_typing::is_typed;
 use std::alloc::{AllocError, Global};
 
 /// A rule of one instruction, in the order in which they are looked at.

@@ -1,14 +1,14 @@
 //! The instructions of a function, one after another.
 ghost use Rattle.std.specs.Prelude.{◌≡◌, ◌<◌, ◌^◌, All, IfNone, IfOk, IfSome, length, slice_index_or};
 ghost use Rattle.ds_shape.specs.Placed.{Placed as placed, placed_of};
-ghost use Rattle.ds_blocks.specs.Predecessors.{ArePredecessorsOf};
+ghost use Rattle.ds_check_blocks.specs.Predecessors.{ArePredecessorsOf};
 ghost use Rattle.ds_check.specs.Fault.{KeepsAll};
 ghost use Rattle.ds_check.specs.Front.{AreFronts};
 ghost use Rattle.ds_check.specs.Instr.{IsBroken};
 ghost use Rattle.ds_check.specs.Broken.{IsFirstBroken};
 
 use crate::instr::{Judge, Rule, first_broken};
-use ds_blocks::{Sites, instr_at};
+use ds_check_blocks::{Sites, instr_at};
 use std::alloc::{AllocError, Global};
 
 /// A rule that an instruction breaks.

@@ -4,7 +4,7 @@ ghost use Rattle.ds_shape.specs.Accepted.{HasMain, IsMain};
 
 use crate::externals::takes;
 use ds_ast::{Function, Module, Scalar, Ty};
-use ds_scope::is_called;
+use ds_check_names::is_called;
 
 /// Whether a function is a `main` that a program begins with.
 fn is_main(f: &Function) -> bool

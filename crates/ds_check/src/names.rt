@@ -9,7 +9,7 @@ use crate::fault::TypeFault;
 use crate::kept_names::first_bad_external;
 use crate::limits::{first_above_limit, limit_by};
 use ds_ast::{Module, Name, Part};
-use ds_scope::{Entities, ScopeFault};
+use ds_check_names::{Entities, ScopeFault};
 use ds_shape::Shapes;
 use std::alloc::Global;
 

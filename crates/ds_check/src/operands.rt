@@ -5,11 +5,11 @@ ghost use Rattle.ds_ast.specs.declared.operand.Arm.{Arm as arm};
 ghost use Rattle.ds_shape.specs.Placed.{values_of, IsDefined};
 ghost use Rattle.ds_shape.specs.Operands.{uses_of};
 ghost use Rattle.ds_shape.specs.Flow.{arms_of};
-ghost use Rattle.ds_blocks.specs.Uses.{value_of};
+ghost use Rattle.ds_check_blocks.specs.Uses.{value_of};
 
 use ds_ast::Op;
-use ds_blocks::{Used, arms, use_at, use_count};
-use ds_scope::{Entities, Locals, is_defined};
+use ds_check_blocks::{Used, arms, use_at, use_count};
+use ds_check_names::{Entities, Locals, is_defined};
 
 /// Whether a value that an instruction uses is defined.
 fn is_defined_use(entities: &Entities, locals: &Locals, used: Used<'_>) -> bool

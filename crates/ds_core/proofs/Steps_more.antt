@@ -14,7 +14,7 @@ use Rattle.ds_plain.specs.Plain.{replaced}
 use Rattle.ds_plain.specs.Table.{op_at, row_at, event_at, step_at, is_over}
 use Rattle.ds_plain.specs.Thread.{Thread, first_thread, moved}
 use Rattle.ds_plain.specs.Explained.{Stands}
-use Rattle.ds_laws.specs.Laws.{NothingStands, OneStepMore}
+use Rattle.ds_plain_laws.specs.Laws.{NothingStands, OneStepMore}
 use Rattle.ds_core.specs.Stands.{StandsWith}
 
 -- before the first step

@@ -8,7 +8,7 @@ use Rattle.ds_plain.specs.declared.Stop.{Stop}
 use Rattle.ds_plain.specs.declared.Stop.TheVariants.{Idle}
 use Rattle.ds_plain.specs.Explained.{IsRecord, IsLegalOrder, HasLegalOrder}
 use Rattle.ds_plain.specs.Small.{program_of}
-use Rattle.ds_laws.specs.Laws.{LegalRunsArePlain}
+use Rattle.ds_plain_laws.specs.Laws.{LegalRunsArePlain}
 use Rattle.ds_core.specs.declared.record.RunRecord.{RunRecord}
 use Rattle.ds_main.specs.Run.{IsRunOfModule}
 use Rattle.ds_main.specs.Ending.{Writing, Delivers}

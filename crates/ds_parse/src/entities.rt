@@ -9,7 +9,7 @@ use ds_grammar::{Entity, ParseFault, items_take_tokens, runs_go_on};
 use ds_lex::TokenKind;
 use ds_parse_function::{declare_line, define_line};
 use ds_parse_global::{global_line, struct_line};
-use ds_reader::{Rest, token_name};
+use ds_parse_parts::{Rest, token_name};
 use std::alloc::{AllocError, Global};
 
 /// The entity that a word begins, if it begins one.

@@ -6,7 +6,7 @@ ghost use Rattle.ds_grammar.specs.Functions as functions;
 
 use ds_grammar::{ParseFault, optionals_are_read};
 use ds_lex::TokenKind;
-use ds_reader::{Rest, balanced, is_next_word, punct};
+use ds_parse_parts::{Rest, balanced, is_next_word, punct};
 use std::alloc::Global;
 
 /// `=`, and a text.

@@ -12,7 +12,7 @@ use crate::entities::module_parts;
 use ds_ast::Module;
 use ds_grammar::{ParseFault, tokens_lie_inside, whole_answers_are_exact};
 use ds_lex::{LexFault, Tokens, lex, tokens_are_unique, tokens_or_fault};
-use ds_reader::Rest;
+use ds_parse_parts::Rest;
 use std::alloc::Global;
 
 /// The module that a text of at most 8,388,608 bytes spells.

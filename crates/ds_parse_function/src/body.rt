@@ -12,7 +12,7 @@ use ds_ast::{Block, Instr, List, Name, Op};
 use ds_grammar::{Begin, Head, Mark, ParseFault, items_take_tokens, marks_are_read, runs_go_on};
 use ds_lex::TokenKind;
 use ds_parse_instr::{head_of, row_of};
-use ds_reader::{Rest, name_of, punct, token_name};
+use ds_parse_parts::{Rest, name_of, punct, token_name};
 use std::alloc::{AllocError, Global};
 use std::marker::Model;
 

@@ -13,7 +13,7 @@ use ds_grammar::{
     ParseFault, items_take_tokens, optionals_are_read, readings_take_tokens, runs_go_on,
 };
 use ds_lex::TokenKind;
-use ds_reader::{
+use ds_parse_parts::{
     Rest, global, ignored_run, is_punct, local_name, punct, scalar, scalar_of, type_of,
 };
 use std::alloc::{AllocError, Global};

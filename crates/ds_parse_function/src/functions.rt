@@ -6,7 +6,7 @@ use crate::body::body_from;
 use crate::parameters::defined_parameters;
 use ds_ast::Function;
 use ds_grammar::ParseFault;
-use ds_reader::{Rest, global, ignored_run, punct, type_of};
+use ds_parse_parts::{Rest, global, ignored_run, punct, type_of};
 use std::alloc::Global;
 
 /// A definition, behind its word.

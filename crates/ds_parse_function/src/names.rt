@@ -4,7 +4,7 @@ ghost use Rattle.ds_grammar.specs.Functions as functions;
 
 use ds_ast::Name;
 use ds_grammar::Mark;
-use ds_reader::range_mark;
+use ds_parse_parts::range_mark;
 
 /// The mark of a number that a name takes without being written: it is below 2^32.
 pub fn taken_mark(at: u32, counter: u64) -> Mark

@@ -3,7 +3,7 @@ ghost use Rattle.std.specs.Prelude.{◌≡◌};
 ghost use Rattle.ds_ast.specs.Bounds as bounds;
 
 use ds_ast::Op;
-use ds_reader::has_values;
+use ds_parse_parts::has_values;
 
 /// Whether an operation has a result.
 pub fn has_result(op: &Op) -> bool

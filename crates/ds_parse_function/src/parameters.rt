@@ -13,7 +13,7 @@ use ds_grammar::{
     Mark, ParseFault, items_take_tokens, marks_are_read, optionals_are_read, runs_go_on,
 };
 use ds_lex::TokenKind;
-use ds_reader::{Rest, ignored_run, local_name, punct, scalar_of};
+use ds_parse_parts::{Rest, ignored_run, local_name, punct, scalar_of};
 use std::alloc::{AllocError, Global};
 use std::marker::Model;
 

@@ -10,7 +10,7 @@ use crate::structs::Structs;
 use ds_ast::{GlobalDef, Name};
 use ds_grammar::ParseFault;
 use ds_lex::TokenKind;
-use ds_reader::{Rest, endings, ignored_run, punct, type_of};
+use ds_parse_parts::{Rest, endings, ignored_run, punct, type_of};
 use std::alloc::Global;
 
 /// How many brackets may be open at once in an initialiser.

@@ -12,7 +12,7 @@ use crate::structs::Structs;
 use ds_ast::{Bytes, Init, List, Scalar, Ty, Value};
 use ds_grammar::{Bound, Breach, InitHead, Mark, ParseFault};
 use ds_lex::TokenKind;
-use ds_reader::{Rest, is_punct, range_mark, text_of, value_of};
+use ds_parse_parts::{Rest, is_punct, range_mark, text_of, value_of};
 use std::alloc::{AllocError, Global};
 
 /// The type of each element in square brackets behind a type, where there may be some.

@@ -6,7 +6,7 @@ ghost use Rattle.ds_grammar.specs.Globals as globals;
 use ds_ast::{List, Name, StructDef, Ty};
 use ds_grammar::{ParseFault, items_take_tokens, runs_go_on};
 use ds_lex::TokenKind;
-use ds_reader::{
+use ds_parse_parts::{
     Arrays, Rest, array_front, arrays_from, base_type, closed_type, is_punct, punct, type_of, word,
 };
 use std::alloc::{AllocError, Global};

@@ -11,7 +11,7 @@ use crate::structs::Structs;
 use ds_ast::{Init, List, Ty};
 use ds_grammar::{InitHead, ParseFault, readings_take_tokens, runs_go_on};
 use ds_lex::TokenKind;
-use ds_reader::{Rest, is_punct, punct};
+use ds_parse_parts::{Rest, is_punct, punct};
 use std::alloc::{AllocError, Global};
 
 /// Whether a token begins an element behind these, of this type: the type where it is the first one, which is then

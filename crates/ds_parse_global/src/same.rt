@@ -9,7 +9,7 @@ use crate::structs::is_name;
 use ds_ast::{Name, Ty};
 use ds_grammar::ParseFault;
 use ds_lex::{TokenKind, number_of};
-use ds_reader::{Rest, is_punct, local_name, punct, scalar_word, word};
+use ds_parse_parts::{Rest, is_punct, local_name, punct, scalar_word, word};
 use std::alloc::{AllocError, Global};
 
 /// Whether a token is this word.

@@ -5,7 +5,7 @@ ghost use Rattle.ds_grammar.specs.Instructions as instructions;
 use crate::ops::condition;
 use ds_ast::{BinOp, CastOp, Op, Scalar};
 use ds_grammar::ParseFault;
-use ds_reader::{Rest, endings, ignored_run, punct, scalar, typed_value, value, word};
+use ds_parse_parts::{Rest, endings, ignored_run, punct, scalar, typed_value, value, word};
 use std::alloc::Global;
 
 /// An operation on two integers.

@@ -8,7 +8,7 @@ use crate::trails::is_empty;
 use ds_ast::{Op, Operand, Ops, Scalar};
 use ds_grammar::{Mark, ParseFault, items_take_tokens, runs_go_on};
 use ds_lex::TokenKind;
-use ds_reader::{
+use ds_parse_parts::{
     Rest, endings, global, ignored_run, is_punct, punct, scalar, scalar_of, type_of, value,
 };
 use std::alloc::Global;

@@ -6,7 +6,7 @@ ghost use Rattle.ds_grammar.specs.Instructions as instructions;
 use ds_ast::{List, Name, Op, Operand, Scalar};
 use ds_grammar::{Mark, ParseFault, readings_take_tokens, runs_go_on};
 use ds_lex::{TokenKind, number_of};
-use ds_reader::{
+use ds_parse_parts::{
     Rest, endings, fits_type, is_next_word, kept, local, punct, range_mark, scalar, scalar_of,
     scalar_word, target, value,
 };

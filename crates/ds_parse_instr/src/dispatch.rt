@@ -19,7 +19,7 @@ use crate::ops::CAST_OP_WORDS;
 use ds_ast::{Instr, Op};
 use ds_grammar::{Head, Mark, ParseFault, RunItem, marks_are_read};
 use ds_lex::TokenKind;
-use ds_reader::{
+use ds_parse_parts::{
     BIN_OP_WORDS, Rest, find, ignored_from, result_name, run_item, run_rest, taken, word,
 };
 use std::alloc::Global;

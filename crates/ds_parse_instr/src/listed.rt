@@ -6,7 +6,7 @@ ghost use Rattle.ds_grammar.specs.Instructions as instructions;
 use crate::trails::{arm, arm_trail, operand_trail};
 use ds_ast::{Op, Operand, Ops, Part, Scalar};
 use ds_grammar::ParseFault;
-use ds_reader::{Rest, ignored_run, punct, scalar, type_of, typed_value};
+use ds_parse_parts::{Rest, ignored_run, punct, scalar, type_of, typed_value};
 use std::alloc::{AllocError, Global};
 
 /// A copy of the first operand, if there is one.

@@ -7,7 +7,7 @@ use crate::ops::{optional_ordering, ordering, rmw_op};
 use ds_ast::{Op, Scalar};
 use ds_grammar::{Mark, ParseFault};
 use ds_lex::{TokenKind, number_of};
-use ds_reader::{
+use ds_parse_parts::{
     Rest, endings, ignored_run, local, optional_atomic, punct, range_mark, same_scalar, scalar,
     typed_value, value,
 };

@@ -7,7 +7,7 @@ ghost use Rattle.ds_grammar.specs.Instructions as instructions;
 use ds_ast::{CastOp, Cond, RmwOp};
 use ds_grammar::{ParseFault, optionals_are_read};
 use ds_lex::TokenKind;
-use ds_reader::{Rest, find};
+use ds_parse_parts::{Rest, find};
 
 /// The conversions.
 pub const CAST_OP_WORDS: [(&[u8], CastOp); 5] = [

@@ -11,7 +11,7 @@ use crate::dispatch::instruction;
 use ds_ast::Instr;
 use ds_grammar::{ParseFault, answers_are_exact, tokens_lie_inside};
 use ds_lex::Tokens;
-use ds_reader::Rest;
+use ds_parse_parts::Rest;
 use std::alloc::Global;
 
 /// The instruction that the tokens from `at` on spell, up to the first dead end.

@@ -7,7 +7,7 @@ ghost use Rattle.ds_grammar.specs.Instructions as instructions;
 use ds_ast::{Arm, Operand, Ops, Scalar};
 use ds_grammar::{Behind, Ending, ParseFault, Stage, items_take_tokens, runs_go_on};
 use ds_lex::TokenKind;
-use ds_reader::{
+use ds_parse_parts::{
     Rest, ending_last, is_metadata, is_punct, local, next_ending, punct, scalar_of, value,
 };
 use std::alloc::Global;

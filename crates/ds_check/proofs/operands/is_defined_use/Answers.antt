@@ -1,6 +1,6 @@
 use Rattle.std.proofs.Common.{◌↔◌, IsTrue, sym, subst}
 use Rattle.ds_shape.specs.Placed.{IsDefined}
-use Rattle.ds_blocks.specs.Uses.{value_of}
+use Rattle.ds_check_blocks.specs.Uses.{value_of}
 use Rattle.ds_check.proofs.Defined.{local_defined}
 use Rattle.ds_check.proofs.operands.is_defined_use.Goals as goal
 

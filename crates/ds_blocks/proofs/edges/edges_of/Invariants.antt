@@ -1,5 +1,0 @@
-use Rattle.ds_blocks.proofs.Leads.{AreRows}
-use Rattle.ds_blocks.proofs.edges.edges_of.Given as goal
-
-abbrev pub invariant-loop-block : goal.invariant-loop-block
-invariant-loop-block l = AreRows l.locals l.block-index l.graph

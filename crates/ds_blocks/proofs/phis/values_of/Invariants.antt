@@ -1,6 +1,0 @@
-use Rattle.std.proofs.Common.{take}
-use Rattle.ds_blocks.specs.Phis.{Agrees}
-use Rattle.ds_blocks.proofs.phis.values_of.Given as goal
-
-abbrev pub invariant-loop-arm : goal.invariant-loop-arm
-invariant-loop-arm l = Agrees l.locals l.predecessors.keys (take l.arm-index l.arms) l.values

@@ -1,0 +1,15 @@
+use Rattle.std.proofs.Common.{[], ◌∷◌, true≢false, sym, ◌∙◌}
+use Rattle.ds_ast.specs.declared.ty.Scalar.TheVariants.{Ptr}
+use Rattle.ds_shape.specs.Operands.{typed}
+use Rattle.ds_shape.specs.Types.{IsTypedOperand}
+use Rattle.ds_check_types.proofs.Listed.{first_and, not_first}
+use Rattle.ds_check_types.proofs.operands.are_base_and_indices.Goals as goal
+
+pub returns-then-not-has_type : goal.returns-then-not-has_type
+returns-then-not-has_type c =
+    not_first (IsTypedOperand c.args.entities.now c.args.locals.now) (typed Ptr c.args.base.now) (c.args.indices.now)
+    (λ has. true≢false (sym (c.has_type.ensures.1 has) ∙ c.if-not-has_type.true))
+
+pub returns : goal.returns
+returns c = first_and (IsTypedOperand c.args.entities.now c.args.locals.now) (typed Ptr c.args.base.now)
+    (c.args.indices.now) c.are_all.result (c.has_type.ensures.0 c.if-not-has_type.false) c.are_all.ensures

@@ -1,8 +1,0 @@
-use Rattle.ds_laws.proofs.Runs.{explained}
-use Rattle.ds_laws.proofs.legal_runs_are_plain.Goals as goal
-
-pub returns : goal.returns
-returns c = λ program lim image stops traces range known some_order. record {
-  some_order = some_order;
-  every_order = λ h takes legal. explained program lim image stops traces range known h takes legal;
-}

@@ -1,5 +1,0 @@
-use Rattle.ds_laws.proofs.Pushes.{one_more}
-use Rattle.ds_laws.proofs.one_step_more.Goals as goal
-
-pub returns : goal.returns
-returns c = one_more

@@ -1,7 +1,0 @@
-use Rattle.std.proofs.Common.{◌↔◌, drop}
-use Rattle.ds_shape.specs.Types.{Walks}
-use Rattle.ds_typing.proofs.addresses.walks.Given as goal
-
-abbrev pub invariant-loop-index : goal.invariant-loop-index
-invariant-loop-index l =
-    Walks l.fn.entities l.fn.ty l.fn.indices ↔ Walks l.fn.entities l.at (drop l.index-index l.fn.indices)
