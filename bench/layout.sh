@@ -29,7 +29,7 @@ while read -r kind status line; do
     for count in 12500 25000 50000 100000; do
         python3 "$work/generate.py" "$kind" "$count" >"$work/input"
         timed "$count $kind" check "$status"
-        (ulimit -s 200; "$top/crates/ds_main/out/ds_main" check <"$work/input" >"$work/out" || true)
+        (ulimit -s 200; "$top/crates/dangsan/out/dangsan" check <"$work/input" >"$work/out" || true)
         grep -qx "$(echo "$line" | sed "s/COUNT/$count/")" "$work/out" || failed=1
     done
 done <<'INPUTS'

@@ -12,7 +12,7 @@ measure() {
     label=$1
     input=$2
     shift 2
-    python3 - "$label" "$input" "$top/crates/ds_main/out/ds_main" "$@" <<'PYTHON'
+    python3 - "$label" "$input" "$top/crates/dangsan/out/dangsan" "$@" <<'PYTHON'
 import os, resource, subprocess, sys, time
 label, path, command = sys.argv[1], sys.argv[2], sys.argv[3:]
 best = None

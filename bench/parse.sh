@@ -50,8 +50,8 @@ for count in 94 188 376 752; do
     python3 "$top/bench/clang_module.py" "$count" >"$work/input"
     timed "$count module" instrument 0
 done
-"$top/crates/ds_main/out/ds_main" instrument <"$work/input" >"$work/once" || failed=1
-"$top/crates/ds_main/out/ds_main" instrument <"$work/once" | cmp - "$work/once" || failed=1
+"$top/crates/dangsan/out/dangsan" instrument <"$work/input" >"$work/once" || failed=1
+"$top/crates/dangsan/out/dangsan" instrument <"$work/once" | cmp - "$work/once" || failed=1
 while read -r kind status counts; do
     for count in $counts; do
         python3 "$work/generate.py" "$kind" "$count" >"$work/input"
