@@ -1,7 +1,7 @@
 -- How large a run may be.
 use Rattle.std.specs.Prelude.{ℕ, ◌≤◌}
 
--- the pages of the heap, the units that each thread may spend, the log entries, and the words of the hash table
+-- the pages of the heap, the units that each thread may spend, the logs, and the words of their hash area
 pub record Bounds : Type 0 where
   pub pages : ℕ
   pub fuel : ℕ

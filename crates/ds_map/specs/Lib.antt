@@ -1,3 +1,4 @@
 pub mod Bounds
+pub mod Blocks
 pub mod Regions
 pub mod Words

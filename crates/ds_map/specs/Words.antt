@@ -19,11 +19,11 @@ first_block_word lim = first_page_word + lim.pages
 abbrev pub first_home_word : Bounds → ℕ
 first_home_word lim = first_block_word lim + 256 * lim.pages
 
--- the first log word: 16 words for each log entry follow
+-- the first log word: 16 words for each log follow
 abbrev pub first_log_word : Bounds → ℕ
 first_log_word lim = first_home_word lim + 4096 * lim.pages
 
--- the first word of the hash table, which has so many words
+-- the first word of the hash area, which has so many words
 abbrev pub first_hash_word : Bounds → ℕ
 first_hash_word lim = first_log_word lim + 16 * lim.logs
 

@@ -13,14 +13,14 @@ const MOST_PAGES: u32 = 4096;
 /// The most units that a thread may spend.
 const MOST_FUEL: u32 = 2_000_000;
 
-/// The most log entries that a run may have.
+/// The most logs that a run may have.
 const MOST_LOGS: u32 = 1_048_576;
 
-/// The most words that the hash table may have.
+/// The most words that the hash area may have.
 const MOST_HASH: u32 = 16_777_216;
 
 /// How large a run may be: the pages of its heap (1 to 4,096), the units that each thread may spend (1 to
-/// 2,000,000), its log entries (0 to 1,048,576) and the words of its hash table (0 to 16,777,216).
+/// 2,000,000), its logs (0 to 1,048,576) and the words of their hash area (0 to 16,777,216).
 #[derive(Clone, Copy, Debug, PartialEq, Eq)]
 pub struct Limits {
     pages: u32,
@@ -64,8 +64,8 @@ impl Limits {
         })
     }
 
-    /// The limits of a run that names none: 256 pages, 1,000,000 units a thread, 65,536 log entries and 1,048,576
-    /// words of the hash table.
+    /// The limits of a run that names none: 256 pages, 1,000,000 units a thread, 65,536 logs and 1,048,576
+    /// words of the hash area.
     pub fn default_limits() -> Limits
         ensures { result ≡ default_limits }
     {
@@ -93,7 +93,7 @@ impl Limits {
         self.fuel
     }
 
-    /// The number of log entries.
+    /// The number of logs.
     pub fn logs(&self) -> u32
         ensures logs { result ≡ self.now.logs }
         ensures in_range { IsInRange self.now }
@@ -101,7 +101,7 @@ impl Limits {
         self.logs
     }
 
-    /// The number of words of the hash table.
+    /// The number of words of the hash area.
     pub fn hash(&self) -> u32
         ensures hash { result ≡ self.now.hash }
         ensures in_range { IsInRange self.now }

@@ -35,7 +35,7 @@ const CONTROL_WORDS: u32 = 384;
 /// home words.
 const RECORDS_OF_PAGE: u32 = 1 + 256 + 4096;
 
-/// The number of the table's words for each log entry.
+/// The number of the table's words for each log.
 const LOG_WORDS: u32 = 16;
 
 /// How many program words there are.

@@ -1,5 +1,6 @@
 -- What one operation does to one word.
-use Rattle.std.specs.Prelude.{ℕ, ◌+◌, ◌-◌, ◌%◌, ◌^◌, ◌==◌, max, min, bit_and, bit_or, bit_xor, if◌then◌else◌, List}
+use prog.Atomic.{either}
+use Rattle.std.specs.Prelude.{ℕ, ◌+◌, ◌-◌, ◌%◌, ◌^◌, ◌==◌, max, min, bit_and, bit_or, bit_xor, List}
 use Rattle.std.specs.Prelude.{slice_index, slice_set}
 use Rattle.ds_step.specs.declared.OpKind.{OpKind}
 use Rattle.ds_step.specs.declared.OpKind.TheVariants.{Load, Store, Swap, Add, Sub, And, Or, Xor, Max, Min, Cas}
@@ -17,7 +18,7 @@ written_by Or a b n = bit_or n a
 written_by Xor a b n = bit_xor n a
 written_by Max a b n = max n a
 written_by Min a b n = min n a
-written_by Cas a b n = if n == a then b else n
+written_by Cas a b n = either (n == a) b n
 
 -- what an operation of this kind answers where the word held n: the old value, and 0 for a store
 abbrev pub answered_by : OpKind → ℕ → ℕ

@@ -47,9 +47,9 @@ pub struct WordOp {
 /// Which room of the run is full.
 #[derive(Clone, Copy, Debug, PartialEq, Eq)]
 pub enum FullWhat {
-    /// No log entry is left for the pointers that a thread stores into a block.
+    /// No log is left for the pointers that a thread stores into a block.
     Logs,
-    /// No word is left in the hash table of a log.
+    /// No word is left for the hash chunk of a log.
     Hash,
 }
 
@@ -58,7 +58,8 @@ pub enum FullWhat {
 pub enum FreeTrap {
     /// No block starts at the address.
     BadFree,
-    /// The block at the address is not live: `seen` is its block word as the free saw it.
+    /// The block at the address is not live, or no longer in the life in which the free found it: `seen` is its
+    /// block word as the free saw it.
     DoubleFree { seen: u64 },
 }
 

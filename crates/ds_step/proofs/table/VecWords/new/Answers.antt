@@ -1,5 +1,4 @@
-use Rattle.std.proofs.Common.{◌≡◌, length, ap, ◌∙◌}
-use Rattle.ds_map.specs.Words.{first_words}
+use Rattle.std.proofs.Common.{length, ap, ◌∙◌}
 use Rattle.ds_step.proofs.Start.{pieces-first_words, length-first_words}
 use Rattle.ds_step.proofs.table.VecWords.new.Goals as goal
 
