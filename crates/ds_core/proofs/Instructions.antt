@@ -8,8 +8,6 @@ use Rattle.ds_small.specs.declared.SmallAddress.TheVariants.{Global, Null}
 use Rattle.ds_small.specs.Module.{Module, UsesDefined, IsWellFormed}
 use Rattle.ds_map.specs.Bounds.{default_limits}
 use Rattle.ds_plain.specs.declared.Position.{Position}
-use Rattle.ds_plain.specs.declared.Request.{Request}
-use Rattle.ds_plain.specs.declared.Request.TheVariants as requests
 use Rattle.ds_plain.specs.Table.{position_of, is_over}
 use Rattle.ds_plain.specs.Small.{request_at}
 use Rattle.ds_core.specs.Stands.{IsWithin, main_position}
@@ -23,12 +21,18 @@ within_by small i answers (Store value (Global loc)) few defined = omega (arith,
 within_by small i answers (Store value Null) few defined = tt
 within_by small i answers (Print value) few defined = tt
 
--- a request has a position at which a step is made
-pub goes_on : (request : Request) → is_over (position_of request) ≡ false
-goes_on (requests.Print value) = refl
-goes_on (requests.Load loc) = refl
-goes_on (requests.Store loc value) = refl
-goes_on (requests.Finish stop) = refl
+-- an instruction has a position at which a step is made
+goes_by : (main i : ℕ) (answers : List ℕ) (op : SmallOp)
+    → is_over (position_of (request_at main i answers (Some op))) ≡ false
+goes_by main i answers (Load (Global loc)) = refl
+goes_by main i answers (Load Null) = refl
+goes_by main i answers (Store value (Global loc)) = refl
+goes_by main i answers (Store value Null) = refl
+goes_by main i answers (Print value) = refl
+
+pub goes_on : (main i : ℕ) (answers : List ℕ) (op : SmallOp) (position : Position)
+    → position ≡ position_of (request_at main i answers (Some op)) → is_over position ≡ false
+goes_on main i answers op position is = ap is_over is ∙ goes_by main i answers op
 
 -- the instruction that is read at the next place
 next_is : (small : Module) (n : ℕ) (code : List SmallOp) (d : SmallOp) → code ≡ small.code → n < length small.code

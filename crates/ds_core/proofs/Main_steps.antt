@@ -1,10 +1,12 @@
 -- What each step does to main, and what it leaves of the other threads.
 use Rattle.std.proofs.Common.{◌≡◌, ℕ, ◌+◌, ◌*◌, ◌<◌, ◌≤◌, Bool, true, false, List, [], ◌∷◌, ◌++◌, length, replicate}
 use Rattle.std.proofs.Common.{if◌then◌else◌, ◌==◌, refl, ap, sym, subst, ◌∙◌, arith, append_assoc, length-append}
-use Rattle.std.proofs.Common.{slice_index, slice_get, Option, None}
+use Rattle.std.proofs.Common.{slice_index, slice_get, Option, Some, None}
 use Rattle.std.proofs.lemmas.List.{replicate-append-replicate}
 use Rattle.std.proofs.lemmas.Option.{slice_get_past}
+use Rattle.ds_small.specs.declared.SmallAddress.TheVariants.{Global, Null}
 use Rattle.ds_small.specs.declared.SmallOp.{SmallOp}
+use Rattle.ds_small.specs.declared.SmallOp.TheVariants.{Load, Store, Print}
 use Rattle.ds_plain.specs.declared.Stop.TheVariants.{Returned}
 use mathlib.Core.Path.{fun_ext}
 use Rattle.std.proofs.lemmas.Bool.{le-leb, lt-ltb}
@@ -14,12 +16,11 @@ use Rattle.ds_small.specs.Module.{Module}
 use Rattle.ds_map.specs.Bounds.{Bounds, default_limits}
 use Rattle.ds_map.specs.Words.{first_words}
 use Rattle.ds_plain.specs.declared.Position.{Position}
-use Rattle.ds_plain.specs.declared.Position.TheVariants.{LoadStart, DrawPrint, LoadWord, StoreWord, StoreEnded, Over}
-use Rattle.ds_plain.specs.declared.Request.{Request}
-use Rattle.ds_plain.specs.declared.Request.TheVariants as requests
+use Rattle.ds_plain.specs.declared.Position.TheVariants.{Start, Access, DrawPrint, StoreEnded, Over, NoRow}
+use Rattle.ds_plain.specs.declared.StartAt.TheVariants.{LoadStart}
 use Rattle.ds_plain.specs.declared.Stop.{Stop}
 use Rattle.ds_plain.specs.Behaviour.{Behaviour, told, Program}
-use Rattle.ds_plain.specs.Plain.{replaced}
+use Rattle.ds_plain.specs.State.{replaced}
 use Rattle.ds_plain.specs.Table.{op_at, position_of}
 use Rattle.ds_plain.specs.Thread.{Thread, first_thread, moved, moved_from, standing, arriving}
 use Rattle.ds_plain.specs.Small.{asked_of, request_at, program_of}
@@ -30,16 +31,16 @@ use Rattle.ds_core.specs.Stands.{threads_at_end, MainStands}
 paid : (rest : Behaviour) (units : ℕ) (position : Position) → units < 1000000
     → standing default_limits rest units true position ≡ record
     { rest = rest; position = position; units = units; began = true }
-paid rest units LoadStart lt = rw (lt-ltb units 1000000 lt) refl
+paid rest units (Start at) lt = rw (lt-ltb units 1000000 lt) refl
+paid rest units (Access at) lt = rw (lt-ltb units 1000000 lt) refl
 paid rest units (DrawPrint value) lt = rw (lt-ltb units 1000000 lt) refl
-paid rest units (LoadWord loc) lt = rw (lt-ltb units 1000000 lt) refl
-paid rest units (StoreWord loc value) lt = rw (lt-ltb units 1000000 lt) refl
 paid rest units (StoreEnded stop) lt = refl
 paid rest units (Over stop) lt = refl
+paid rest units NoRow lt = rw (lt-ltb units 1000000 lt) refl
 
 -- main begins
 pub main_begins : (small : Module)
-    → moved default_limits 0 (first_thread default_limits (program_of small) 0) 1 ≡ main_thread small []
+    → moved (program_of small) default_limits 0 (first_thread default_limits) 1 ≡ main_thread small []
 main_begins small = paid (asked_of small) 2 (main_position small []) (omega arith)
 
 -- what main behaves like once it was told an answer
@@ -85,21 +86,28 @@ main_spends small answers answer lt =
       began = true;
     }) units
 
--- the step of a request that is no end
-main_moves : (small : Module) (answers : List ℕ) (request : Request) (old : ℕ) → 2 + 2 * length answers + 2 < 1000000
-    → ((stop : Stop) → position_of request ≡ StoreEnded stop → ⊥)
-    → moved_from default_limits 0 (main_thread small answers) (position_of request) old ≡ main_thread small
-    (answers ++ told_at (position_of request) old ∷ [])
-main_moves small answers (requests.Print value) old lt goes = main_spends small answers 0 lt
-main_moves small answers (requests.Load loc) old lt goes = main_spends small answers old lt
-main_moves small answers (requests.Store loc value) old lt goes = main_spends small answers 0 lt
-main_moves small answers (requests.Finish stop) old lt goes = absurd (goes stop refl)
+-- where main stands, once it was given these answers and comes to this instruction
+abbrev position_at_op : Module → List ℕ → Option SmallOp → Position
+position_at_op small answers op = position_of (request_at small.main (length answers) answers op)
+
+-- the step of an instruction at which main does not end
+main_moves : (small : Module) (answers : List ℕ) (op : Option SmallOp) (old : ℕ)
+    → 2 + 2 * length answers + 2 < 1000000
+    → ((stop : Stop) → position_at_op small answers op ≡ StoreEnded stop → ⊥)
+    → moved_from (program_of small) default_limits 0 (main_thread small answers) (position_at_op small answers op) old
+    ≡ main_thread small (answers ++ told_at (position_at_op small answers op) old ∷ [])
+main_moves small answers (Some (Load (Global loc))) old lt goes = main_spends small answers old lt
+main_moves small answers (Some (Load Null)) old lt goes = absurd (goes _ refl)
+main_moves small answers (Some (Store value (Global loc))) old lt goes = main_spends small answers 0 lt
+main_moves small answers (Some (Store value Null)) old lt goes = absurd (goes _ refl)
+main_moves small answers (Some (Print value)) old lt goes = main_spends small answers 0 lt
+main_moves small answers None old lt goes = absurd (goes _ refl)
 
 -- threads that are alike at each number are alike
-same_threads : (program : Program) (lim : Bounds) (image words : List ℕ) (traces : List (List Step)) (order : List ℕ)
+same_threads : (program : Program) (lim : Bounds) (words : List ℕ) (traces : List (List Step)) (order : List ℕ)
     (f g : ℕ → Thread) → ((t : ℕ) → f t ≡ g t)
-    → StandsWith program lim image words traces order f → StandsWith program lim image words traces order g
-same_threads program lim image words traces order f g same s = (
+    → StandsWith program lim words traces order f → StandsWith program lim words traces order g
+same_threads program lim words traces order f g same s = (
   s.0,
   s.1,
   record {
@@ -133,18 +141,18 @@ first_start_word image = refl
 -- after main's first step
 pub stands_begun : (small : Module) (words words' : List ℕ) (traces traces' : List (List Step)) (order order' : List ℕ)
     → words ≡ first_words default_limits small.globals
-    → StandsAfter default_limits 0 LoadStart words words' traces traces' order order'
-    → StandsWith (program_of small) default_limits small.globals words traces order
-    (first_thread default_limits (program_of small))
+    → StandsAfter default_limits 0 (Start LoadStart) words words' traces traces' order order'
+    → StandsWith (program_of small) default_limits words traces order
+    (λ t. first_thread default_limits)
     → MainStands small [] words' traces' order'
 stands_begun small words words' traces traces' order order' start turn stood =
     let program : Program = program_of small in
-    let one : answer_on words (op_at default_limits 0 LoadStart) ≡ 1 = ap (λ (ws : List ℕ). slice_index ws 16) start
-    ∙ first_start_word small.globals in
-    same_threads program default_limits small.globals words' traces' order' _ _
-    (replaced_once (first_thread default_limits program) _ _
-    (ap (λ (n : ℕ). moved default_limits 0 (first_thread default_limits program 0) n) one ∙ main_begins small))
-    (turn program small.globals (first_thread default_limits program) refl stood)
+    let one : answer_on words (op_at default_limits 0 (Start LoadStart)) ≡ 1 =
+    ap (λ (ws : List ℕ). slice_index ws 16) start ∙ first_start_word small.globals in
+    same_threads program default_limits words' traces' order' _ _
+    (replaced_once (λ t. first_thread default_limits) _ _
+    (ap (λ (n : ℕ). moved program default_limits 0 (first_thread default_limits) n) one ∙ main_begins small))
+    (turn program (λ t. first_thread default_limits) refl stood)
 
 -- after the step of one of main's instructions
 pub stands_next : (small : Module) (answers words words' : List ℕ) (traces traces' : List (List Step))
@@ -156,36 +164,36 @@ pub stands_next : (small : Module) (answers words words' : List ℕ) (traces tra
     traces' order'
 stands_next small answers words words' traces traces' order order' position lt here goes turn stood =
     let program : Program = program_of small in
-    let request : Request = request_at small.main (length answers) answers (slice_get small.code (length answers)) in
+    let op : Option SmallOp = slice_get small.code (length answers) in
     let old : ℕ = answer_on words (op_at default_limits 0 position) in
-    let moves : moved default_limits 0 (main_thread small answers) old ≡ main_thread small
+    let moves : moved program default_limits 0 (main_thread small answers) old ≡ main_thread small
     (answers ++ told_at position old ∷ []) =
-    main_moves small answers request old lt (λ stop e. goes stop (here ∙ e))
+    main_moves small answers op old lt (λ stop e. goes stop (here ∙ e))
     ∙ ap (λ (p : Position). main_thread small (answers ++ told_at p old ∷ [])) (sym here) in
-    same_threads program default_limits small.globals words' traces' order' _ _
-    (replaced_again (first_thread default_limits program) (main_thread small answers) _ _ moves)
-    (turn program small.globals (threads_at small answers) (sym here) stood)
+    same_threads program default_limits words' traces' order' _ _
+    (replaced_again (λ t. first_thread default_limits) (main_thread small answers) _ _ moves)
+    (turn program (threads_at small answers) (sym here) stood)
 
 -- after main's last step
 pub stands_ended : (small : Module) (answers words words' : List ℕ) (traces traces' : List (List Step))
     (order order' : List ℕ) (stop : Stop) → main_position small answers ≡ StoreEnded stop
     → StandsAfter default_limits 0 (StoreEnded stop) words words' traces traces' order order'
     → MainStands small answers words traces order
-    → StandsWith (program_of small) default_limits small.globals words' traces' order'
+    → StandsWith (program_of small) default_limits words' traces' order'
     (threads_at_end small answers stop)
 stands_ended small answers words words' traces traces' order order' stop here turn stood =
     let program : Program = program_of small in
     let old : ℕ = answer_on words (op_at default_limits 0 (StoreEnded stop)) in
-    let moves : moved default_limits 0 (main_thread small answers) old ≡ record {
+    let moves : moved program default_limits 0 (main_thread small answers) old ≡ record {
       rest = λ more. asked_of small (answers ++ more);
       position = Over stop;
       units = 2 + 2 * length answers;
       began = true;
     } =
-    ap (λ (p : Position). moved_from default_limits 0 (main_thread small answers) p old) here in
-    same_threads program default_limits small.globals words' traces' order' _ _
-    (replaced_again (first_thread default_limits program) (main_thread small answers) _ _ moves)
-    (turn program small.globals (threads_at small answers) here stood)
+    ap (λ (p : Position). moved_from program default_limits 0 (main_thread small answers) p old) here in
+    same_threads program default_limits words' traces' order' _ _
+    (replaced_again (λ t. first_thread default_limits) (main_thread small answers) _ _ moves)
+    (turn program (threads_at small answers) here stood)
 
 -- the same, as the code comes by it
 pub kept_next : (small : Module) (lim : Bounds) (answers answers' seen words words' : List ℕ)
@@ -227,16 +235,16 @@ returns_behind small answers all =
 -- main's first step, as the code comes by it
 pub begun_by : (small : Module) (lim : Bounds) (image words words' : List ℕ) (traces traces' : List (List Step))
     (order order' : List ℕ) → lim ≡ default_limits → image ≡ small.globals
-    → words ≡ first_words default_limits image → StandsAfter lim 0 LoadStart words words' traces traces' order order'
-    → ((program : Program)
-    → StandsWith program default_limits image words traces order (first_thread default_limits program))
+    → words ≡ first_words default_limits image
+    → StandsAfter lim 0 (Start LoadStart) words words' traces traces' order order'
+    → ((program : Program) → program.image ≡ image
+    → StandsWith program default_limits words traces order (λ t. first_thread default_limits))
     → MainStands small [] words' traces' order'
 begun_by small lim image words words' traces traces' order order' bounds same start turn stood =
     stands_begun small words words' traces traces' order order'
     (start ∙ ap (λ (globals : List ℕ). first_words default_limits globals) same)
-    (subst (λ (l : Bounds). StandsAfter l 0 LoadStart words words' traces traces' order order') bounds turn)
-    (subst (λ (globals : List ℕ). StandsWith (program_of small) default_limits globals words traces order
-    (first_thread default_limits (program_of small))) same (stood (program_of small)))
+    (subst (λ (l : Bounds). StandsAfter l 0 (Start LoadStart) words words' traces traces' order order') bounds turn)
+    (stood (program_of small) (sym same))
 
 -- main's last step, as the code comes by it
 pub ended_by : (small : Module) (lim : Bounds) (answers words words' : List ℕ) (traces traces' : List (List Step))
@@ -244,7 +252,7 @@ pub ended_by : (small : Module) (lim : Bounds) (answers words words' : List ℕ)
     → main_position small answers ≡ StoreEnded stop
     → StandsAfter lim 0 (StoreEnded stop) words words' traces traces' order order'
     → MainStands small answers words traces order
-    → StandsWith (program_of small) default_limits small.globals words' traces' order'
+    → StandsWith (program_of small) default_limits words' traces' order'
     (threads_at_end small answers stop)
 ended_by small lim answers words words' traces traces' order order' stop bounds here turn stood =
     stands_ended small answers words words' traces traces' order order' stop here

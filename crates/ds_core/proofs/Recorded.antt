@@ -1,14 +1,15 @@
 -- The record of a run in which main has ended.
-use Rattle.std.proofs.Common.{◌≡◌, ℕ, zero, suc, List, ◌∷◌, replicate, get_or, refl, ap, sym, subst, ◌∙◌}
+use Rattle.std.proofs.Common.{◌≡◌, ℕ, zero, suc, List, ◌∷◌, replicate, get_or, refl, sym, subst}
 use Rattle.std.proofs.lemmas.Bool.{ne_eqb}
 use Rattle.ds_step.specs.declared.Step.{Step}
 use Rattle.ds_small.specs.Module.{Module}
 use Rattle.ds_map.specs.Bounds.{default_limits}
 use Rattle.ds_plain.specs.declared.Stop.{Stop}
-use Rattle.ds_plain.specs.declared.Stop.TheVariants.{Idle, Running, Returned, Fuel, Trap}
+use Rattle.ds_plain.specs.declared.Stop.TheVariants.{Idle, Running, Returned, Trap, Full, Fuel}
 use Rattle.ds_plain.specs.Small.{program_of}
 use Rattle.ds_plain.specs.Thread.{stop_of}
 use Rattle.ds_plain.specs.Explained.{HasEnded, IsRecord, IsLegalOrder, stop_in}
+use Rattle.ds_plain_laws.specs.Laws.{StandingIsRecorded}
 use Rattle.ds_core.specs.Ended.{IsOwnStop}
 use Rattle.ds_core.specs.Stands.{threads_at_end, HasEndedAll}
 
@@ -29,25 +30,30 @@ own_ended : (stop : Stop) → IsOwnStop stop → HasEnded stop
 own_ended Idle own = own
 own_ended Running own = own
 own_ended (Returned value) own = own
-own_ended Fuel own = absurd own
 own_ended (Trap trap) own = own
+own_ended (Full place what) own = absurd own
+own_ended Fuel own = absurd own
 
-pub recorded : (small : Module) (stop : Stop) (words : List ℕ) (traces : List (List Step)) (order : List ℕ)
-    (stops : List Stop) → HasEndedAll small stop words traces order → IsOwnStop stop → stops ≡ stop ∷ replicate 15 Idle
-    → IsRecord (program_of small) default_limits stops traces
-recorded small stop words traces order stops ended own are =
-    let stands = ended.3.2 in
-    let same : IsRecord (program_of small) default_limits (stop ∷ replicate 15 Idle) traces =
-    record {
-      sixteen_stops = refl;
-      sixteen_traces = ended.0;
-      follows = λ t lt. stands.follows t;
-      ends = λ t lt. stops_at_end small ended.1 stop t ∙ ap stop_of (sym (stands.at t));
-      main_ended = own_ended stop own;
-    } in
-    subst (λ (s : List Stop). IsRecord (program_of small) default_limits s traces) (sym are) same
+pub main_ended : (stop : Stop) (stops : List Stop) → stops ≡ stop ∷ replicate 15 Idle → IsOwnStop stop
+    → HasEnded (stop_in stops 0)
+main_ended stop stops are own = subst (λ (s : List Stop). HasEnded (stop_in s 0)) (sym are) (own_ended stop own)
 
--- the order is legal
-pub ordered : (small : Module) (stop : Stop) (words : List ℕ) (traces : List (List Step)) (order : List ℕ)
-    → HasEndedAll small stop words traces order → IsLegalOrder default_limits small.globals traces order
-ordered small stop words traces order ended = (ended.3.0, ended.3.1, ended.3.2.interleaves, ended.3.2.legal)
+module _ (law : StandingIsRecorded) (small : Module) (stop : Stop) (words : List ℕ) (traces : List (List Step))
+    (order : List ℕ) (ended : HasEndedAll small stop words traces order) where
+  -- what stands is a record with these stops, in its order
+  both : IsRecord (program_of small) default_limits (stop ∷ replicate 15 Idle) traces
+      × IsLegalOrder (program_of small) default_limits traces order
+  both =
+      let standing = law (program_of small) default_limits (stop ∷ replicate 15 Idle) traces ended.3.0 words
+      (threads_at_end small ended.1 stop) ended.0 (λ t lt. stops_at_end small ended.1 stop t) ended.3.2 in (
+        standing.0,
+        subst (IsLegalOrder (program_of small) default_limits traces) ended.3.1 standing.1,
+      )
+
+  pub recorded : (stops : List Stop) → stops ≡ stop ∷ replicate 15 Idle
+      → IsRecord (program_of small) default_limits stops traces
+  recorded stops are = subst (λ (s : List Stop). IsRecord (program_of small) default_limits s traces) (sym are) both.0
+
+  -- the order is legal
+  pub ordered : IsLegalOrder (program_of small) default_limits traces order
+  ordered = both.1

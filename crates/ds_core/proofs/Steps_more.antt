@@ -10,10 +10,10 @@ use Rattle.ds_map.specs.Bounds.{Bounds}
 use Rattle.ds_map.specs.Words.{first_words}
 use Rattle.ds_plain.specs.declared.Position.{Position}
 use Rattle.ds_plain.specs.Behaviour.{Program}
-use Rattle.ds_plain.specs.Plain.{replaced}
+use Rattle.ds_plain.specs.State.{replaced}
 use Rattle.ds_plain.specs.Table.{op_at, row_at, event_at, step_at, is_over}
 use Rattle.ds_plain.specs.Thread.{Thread, first_thread, moved}
-use Rattle.ds_plain.specs.Explained.{Stands}
+use Rattle.ds_plain.specs.Stands.{Stands}
 use Rattle.ds_plain_laws.specs.Laws.{NothingStands, OneStepMore}
 use Rattle.ds_core.specs.Stands.{StandsWith}
 
@@ -21,13 +21,15 @@ use Rattle.ds_core.specs.Stands.{StandsWith}
 pub stands_at_start : NothingStands
     → (lim : Bounds) (image words : List ℕ) (traces : List (List Step)) (order : List ℕ)
     → words ≡ first_words lim image → traces ≡ replicate 16 [] → order ≡ []
-    → (program : Program) → StandsWith program lim image words traces order (first_thread lim program)
-stands_at_start law lim image words traces order w t o program = (
+    → (program : Program) → program.image ≡ image
+    → StandsWith program lim words traces order (λ t. first_thread lim)
+stands_at_start law lim image words traces order w t o program same = (
   [],
   sym o,
-  subst (λ (ws : List ℕ). Stands program lim image traces [] ws (first_thread lim program)) (sym w)
-      (subst (λ (ts : List (List Step)). Stands program lim image ts [] (first_words lim image)
-      (first_thread lim program)) (sym t) (law program lim image)),
+  subst (λ (ws : List ℕ). Stands program lim traces [] ws (λ u. first_thread lim))
+      (sym (w ∙ ap (first_words lim) (sym same)))
+      (subst (λ (ts : List (List Step)). Stands program lim ts [] (first_words lim program.image)
+      (λ u. first_thread lim)) (sym t) (law program lim)),
 )
 
 -- the record with one step more of thread t, which stands at this position
@@ -38,39 +40,39 @@ pub record StepsOn (lim : Bounds) (t : ℕ) (position : Position) (words words' 
       (slice_index_or traces t [] ++ step_at lim t position (answer_on words (op_at lim t position)) ∷ [])
   pub order_is : order' ≡ order ++ t ∷ []
 
-at_position : OneStepMore → (program : Program) (lim : Bounds) (image words : List ℕ) (traces : List (List Step))
+at_position : OneStepMore → (program : Program) (lim : Bounds) (words : List ℕ) (traces : List (List Step))
     (order : List ℕ) (threads : ℕ → Thread) (t : ℕ) → t < length traces
-    → is_over (threads t).position ≡ false → StandsWith program lim image words traces order threads
-    → StandsWith program lim image (words_after words (op_at lim t (threads t).position))
+    → is_over (threads t).position ≡ false → StandsWith program lim words traces order threads
+    → StandsWith program lim (words_after words (op_at lim t (threads t).position))
     (slice_set traces t (slice_index_or traces t []
     ++ step_at lim t (threads t).position (answer_on words (op_at lim t (threads t).position)) ∷ []))
     (order ++ t ∷ []) (replaced threads t
-    (moved lim t (threads t) (answer_on words (op_at lim t (threads t).position))))
-at_position law program lim image words traces order threads t inside on s = (
+    (moved program lim t (threads t) (answer_on words (op_at lim t (threads t).position))))
+at_position law program lim words traces order threads t inside on s = (
   s.0 ++ (t, step_at lim t (threads t).position (answer_on words (op_at lim t (threads t).position))) ∷ [],
   map-append (λ e. e.0) s.0
       ((t, step_at lim t (threads t).position (answer_on words (op_at lim t (threads t).position))) ∷ [])
       ∙ ap (λ (l : List ℕ). l ++ t ∷ []) s.1,
-  law program lim image traces s.0 words threads t inside s.2 on,
+  law program lim traces s.0 words threads t inside s.2 on,
 )
 
 pub stands_further : OneStepMore → (lim : Bounds) (t : ℕ) (position : Position) (words words' : List ℕ)
     (traces traces' : List (List Step)) (order order' : List ℕ)
     → StepsOn lim t position words words' traces traces' order order' → t < length traces → is_over position ≡ false
-    → (program : Program) (image : List ℕ) (threads : ℕ → Thread) → (threads t).position ≡ position
-    → StandsWith program lim image words traces order threads
-    → StandsWith program lim image words' traces' order'
-    (replaced threads t (moved lim t (threads t) (answer_on words (op_at lim t position))))
-stands_further law lim t position words words' traces traces' order order' steps inside on program image threads here
+    → (program : Program) (threads : ℕ → Thread) → (threads t).position ≡ position
+    → StandsWith program lim words traces order threads
+    → StandsWith program lim words' traces' order'
+    (replaced threads t (moved program lim t (threads t) (answer_on words (op_at lim t position))))
+stands_further law lim t position words words' traces traces' order order' steps inside on program threads here
     s =
-    let at : StandsWith program lim image (words_after words (op_at lim t position))
+    let at : StandsWith program lim (words_after words (op_at lim t position))
     (slice_set traces t (slice_index_or traces t [] ++ step_at lim t position (answer_on words (op_at lim t position))
     ∷ []))
-    (order ++ t ∷ []) (replaced threads t (moved lim t (threads t) (answer_on words (op_at lim t position)))) =
-    subst (λ (p : Position). StandsWith program lim image (words_after words (op_at lim t p))
+    (order ++ t ∷ []) (replaced threads t (moved program lim t (threads t) (answer_on words (op_at lim t position)))) =
+    subst (λ (p : Position). StandsWith program lim (words_after words (op_at lim t p))
     (slice_set traces t (slice_index_or traces t [] ++ step_at lim t p (answer_on words (op_at lim t p)) ∷ []))
-    (order ++ t ∷ []) (replaced threads t (moved lim t (threads t) (answer_on words (op_at lim t p)))))
-    here (at_position law program lim image words traces order threads t inside
+    (order ++ t ∷ []) (replaced threads t (moved program lim t (threads t) (answer_on words (op_at lim t p)))))
+    here (at_position law program lim words traces order threads t inside
     (subst (λ (p : Position). is_over p ≡ false) (sym here) on) s) in
     rw (steps.words_are, steps.traces_are, steps.order_is) at
 

@@ -12,7 +12,7 @@ ghost use Rattle.ds_plain.specs.declared.Position.TheVariants.{StoreEnded};
 ghost use Rattle.ds_plain.specs.Behaviour.{Program};
 ghost use Rattle.ds_plain.specs.Table.{op_at, is_over};
 ghost use Rattle.ds_plain.specs.Thread.{first_thread};
-ghost use Rattle.ds_plain.specs.Explained.{IsRecord, IsLegalOrder, HasEnded};
+ghost use Rattle.ds_plain.specs.Explained.{IsRecord, IsLegalOrder, HasEnded, stop_in};
 ghost use Rattle.ds_plain.specs.Small.{program_of};
 ghost use Rattle.ds_core.specs.Ended.{IsOwnStop};
 ghost use Rattle.ds_core.specs.Stands.{main_position, told_at, MainStands, HasEndedAll};
@@ -22,8 +22,8 @@ use crate::record::RunRecord;
 use crate::small::{position_at, told};
 use crate::table::{op_of, step_of};
 use ds_map::Limits;
-use ds_plain::{Position, Stop};
-use ds_plain_laws::{nothing_stands, one_step_more};
+use ds_plain::{Position, StartAt, Stop};
+use ds_plain_laws::{nothing_stands, one_step_more, standing_is_recorded};
 use ds_small::Small;
 use ds_step::{VecWords, Words};
 use std::alloc::{AllocError, Global};
@@ -51,9 +51,9 @@ impl Replay {
         requires { length image.now ≤ 4096 }
         ensures limits { IfOk result (λ replay. replay.limits ≡ default_limits) }
         ensures table { IfOk result (λ replay. replay.table ≡ first_words default_limits image.now) }
-        ensures stands { IfOk result (λ replay. (program : Program) →
-            StandsWith program default_limits image.now replay.table replay.traces replay.order
-            (first_thread default_limits program)) }
+        ensures stands { IfOk result (λ replay. (program : Program) → program.image ≡ image.now →
+            StandsWith program default_limits replay.table replay.traces replay.order
+            (λ t. first_thread default_limits)) }
         ensures order { IfOk result (λ replay. replay.order ≡ []) }
     {
         nothing_stands();
@@ -120,7 +120,7 @@ fn run_main(alloc: Global, small: &Small) -> Result<(Replay, Stop), AllocError>
     ensures own { IfOk result (λ run. IsOwnStop run.1) }
 {
     let mut replay = Replay::new(alloc, small.globals())?;
-    replay.turn(0, Position::LoadStart)?;
+    replay.turn(0, Position::Start(StartAt::LoadStart))?;
     let mut answers = Vec::new(alloc);
     let stop = run_code(&mut replay, small, &mut answers)?;
     replay.turn(0, Position::StoreEnded { stop })?;
@@ -144,10 +144,13 @@ pub fn replay_small(alloc: Global, small: &Small) -> Result<RunRecord, AllocErro
     requires { IsWellFormed small.now }
     ensures record { IfOk result (λ run. IsRecord (program_of small.now) default_limits run.stops run.traces) }
     ensures order { IfOk result
-        (λ run. IsSomeAnd run.order (IsLegalOrder default_limits small.now.globals run.traces)) }
+        (λ run. IsSomeAnd run.order (IsLegalOrder (program_of small.now) default_limits run.traces)) }
     ensures main_alone { IfOk result (λ run. IsSomeAnd run.order (λ order. order ≡ replicate (length order) 0)) }
     ensures stops { IfOk result (λ run. (stop : Stop) × IsOwnStop stop × (run.stops ≡ stop ∷ replicate 15 Idle)) }
+    ensures sixteen_stops { IfOk result (λ run. length run.stops ≡ 16) }
+    ensures main_ended { IfOk result (λ run. HasEnded (stop_in run.stops 0)) }
 {
+    standing_is_recorded();
     let (replay, main) = run_main(alloc, small)?;
     let stops = stops_by(alloc, main)?;
     let Replay {

@@ -7,7 +7,7 @@ ghost use Rattle.ds_plain.specs.Small.{value_of, null_stop, request_at};
 ghost use Rattle.ds_plain.specs.Table.{is_over, position_of};
 ghost use Rattle.ds_core.specs.Stands.{IsWithin, main_position, told_at};
 
-use ds_plain::{Place, Position, Stop, Trap, TrapKind};
+use ds_plain::{AccessAt, Place, Position, Stop, Trap, TrapKind};
 use ds_small::{Small, SmallAddress, SmallOp, SmallValue};
 
 /// What a value is, by the answers to the instructions before it.
@@ -41,16 +41,16 @@ fn position_by(main: u32, op: SmallOp, answers: &[u64]) -> Position
     let instruction = answers.len() as u32;
     match op {
         SmallOp::Load { at } => match at {
-            SmallAddress::Global(loc) => Position::LoadWord { loc },
+            SmallAddress::Global(loc) => Position::Access(AccessAt::LoadWord { loc }),
             SmallAddress::Null => Position::StoreEnded {
                 stop: stop_at_null(main, instruction),
             },
         },
         SmallOp::Store { value, at } => match at {
-            SmallAddress::Global(loc) => Position::StoreWord {
+            SmallAddress::Global(loc) => Position::Access(AccessAt::StoreWord {
                 loc,
                 value: value_by(answers, value),
-            },
+            }),
             SmallAddress::Null => Position::StoreEnded {
                 stop: stop_at_null(main, instruction),
             },
@@ -78,7 +78,10 @@ pub fn told(position: Position, old: u64) -> u64
     ensures { result ≡ told_at position old }
 {
     match position {
-        Position::LoadWord { loc: _ } => old,
+        Position::Access(at) => match at {
+            AccessAt::LoadWord { loc: _ } => old,
+            AccessAt::StoreWord { loc: _, value: _ } => 0,
+        },
         _ => 0,
     }
 }

@@ -1,29 +1,48 @@
 -- What it means that a recorded run is one of the program.
-use Rattle.std.specs.Prelude.{◌≡◌, ℕ, ◌<◌, Bool, true, false, List, [], length, take, drop, slice_index}
+use Rattle.std.specs.Prelude.{◌≡◌, ℕ, ◌+◌, ◌*◌, ◌<◌, Bool, true, false, List, [], length, take, drop, slice_index}
 use Rattle.std.specs.Prelude.{slice_index_or}
 use Rattle.ds_map.specs.Bounds.{Bounds}
-use Rattle.ds_map.specs.Words.{first_program_word, first_words}
+use Rattle.ds_map.specs.Blocks.{page_word}
+use Rattle.ds_map.specs.Words.{first_page_word, first_block_word, first_program_word, first_words}
 use Rattle.ds_step.specs.declared.Step.{Step}
 use Rattle.ds_plain.specs.declared.Stop.{Stop}
-use Rattle.ds_plain.specs.declared.Stop.TheVariants.{Idle, Running, Returned, Fuel, Trap}
+use Rattle.ds_plain.specs.declared.Stop.TheVariants.{Idle, Running, Returned, Trap, Full, Fuel}
 use Rattle.ds_plain.specs.Behaviour.{Program}
-use Rattle.ds_plain.specs.Plain.{State, first_state, IsPlainRun, state_after, stop_of_phase}
+use Rattle.ds_plain.specs.State.{State, Setting, first_state, block_word, stop_of_phase}
+use Rattle.ds_plain.specs.Plain.{IsPlainRun, state_after}
 use Rattle.ds_plain.specs.Table.{given_word, prints_word}
-use Rattle.ds_plain.specs.Thread.{Thread, first_thread, Follows, thread_after, stop_of}
+use Rattle.ds_plain.specs.Thread.{first_thread, Follows, thread_after, stop_of}
 use Rattle.ds_plain.specs.History.{History, Interleaves, threads_of, IsLegal, words_left, erase}
 
--- the words of the table and the plain state say the same
+-- AGREEMENT
+
+-- the words of the table and the plain state say the same, region by region
 pub record Agrees (lim : Bounds) (words : List ℕ) (s : State) : Type 0 where
   pub given : slice_index words given_word ≡ s.given
   pub prints : slice_index words prints_word ≡ length s.out
+  pub pages : (page : ℕ) → page < lim.pages → slice_index words (first_page_word + page) ≡ page_word (s.pages page)
+  pub blocks : (place : ℕ) → place < 256 * lim.pages
+      → slice_index words (first_block_word lim + place) ≡ block_word (s.blocks place)
   pub program : drop (first_program_word lim) words ≡ s.words
+
+-- STOPS
 
 abbrev pub is_fuel : Stop → Bool
 is_fuel Idle = false
 is_fuel Running = false
 is_fuel (Returned value) = false
-is_fuel Fuel = true
 is_fuel (Trap trap) = false
+is_fuel (Full place what) = false
+is_fuel Fuel = true
+
+-- the thread has ended
+abbrev pub HasEnded : Stop → Type 0
+HasEnded Idle = ⊥
+HasEnded Running = ⊥
+HasEnded (Returned value) = Unit {0}
+HasEnded (Trap trap) = Unit {0}
+HasEnded (Full place what) = Unit {0}
+HasEnded Fuel = Unit {0}
 
 abbrev pub trace_of : List (List Step) → ℕ → List Step
 trace_of traces t = slice_index_or traces t []
@@ -31,69 +50,56 @@ trace_of traces t = slice_index_or traces t []
 abbrev pub stop_in : List Stop → ℕ → Stop
 stop_in stops t = slice_index_or stops t Idle
 
--- the threads that ended for want of fuel
-abbrev pub out_of_fuel_in : List Stop → ℕ → Bool
-out_of_fuel_in stops t = is_fuel (stop_in stops t)
+-- RUNS OF A PROGRAM
 
--- the plain state after the events of a history
-abbrev pub plain_state : Program → Bounds → List ℕ → List Stop → History → State
-plain_state program lim image stops h = state_after program (out_of_fuel_in stops) (first_state lim image) (erase h)
+-- the setting of a run whose threads ended so: those with the stop Fuel ended for want of it
+abbrev pub setting_of : Program → Bounds → List Stop → Setting
+setting_of program lim stops =
+    record { program = program; lim = lim; out_of_fuel = λ t. is_fuel (stop_in stops t); weak = false }
 
--- main has ended
-abbrev pub HasEnded : Stop → Type 0
-HasEnded Idle = ⊥
-HasEnded Running = ⊥
-HasEnded (Returned value) = Unit {0}
-HasEnded Fuel = Unit {0}
-HasEnded (Trap trap) = Unit {0}
+-- the words of the table after these steps
+abbrev pub words_behind : Program → Bounds → History → List ℕ
+words_behind program lim h = words_left (first_words lim program.image) h
 
--- there are 16 threads; each trace follows the step table, and each stop is where the trace leaves its thread
+-- the plain state after their events
+abbrev pub state_behind : Program → Bounds → List Stop → History → State
+state_behind program lim stops h = state_after (setting_of program lim stops) (first_state program lim) (erase h)
+
+-- every step of the history was answered what its word held
+abbrev pub IsLegalRun : Program → Bounds → History → Type 0
+IsLegalRun program lim h = IsLegal (first_words lim program.image) h
+
+-- There are 16 traces; each follows the step table for what its thread's behaviour asks, and each stop is where the
+-- trace leaves its thread.
 pub record IsRecord (program : Program) (lim : Bounds) (stops : List Stop) (traces : List (List Step)) : Type 0 where
-  pub sixteen_stops : length stops ≡ 16
   pub sixteen_traces : length traces ≡ 16
-  pub follows : (t : ℕ) → t < 16 → Follows lim t (first_thread lim program t) (trace_of traces t)
+  pub follows : (t : ℕ) → t < 16 → Follows program lim t (first_thread lim) (trace_of traces t)
   pub ends : (t : ℕ) → t < 16
-      → stop_in stops t ≡ stop_of (thread_after lim t (first_thread lim program t) (trace_of traces t))
-  pub main_ended : HasEnded (stop_in stops 0)
+      → stop_in stops t ≡ stop_of (thread_after program lim t (first_thread lim) (trace_of traces t))
 
 -- In this order the recorded steps are a run of the plain machine on the program, and the stops are that run's.
-pub record IsExplained (program : Program) (lim : Bounds) (image : List ℕ) (stops : List Stop)
-    (traces : List (List Step)) (h : History) : Type 0 where
-  -- every operation was answered what its word held
-  pub legal : IsLegal (first_words lim image) h
-  -- every thread makes the steps of the step table, for what its behaviour asks
-  pub follows : (t : ℕ) → t < 16 → Follows lim t (first_thread lim program t) (trace_of traces t)
+pub record IsExplained (program : Program) (lim : Bounds) (stops : List Stop) (h : History) : Type 0 where
   -- without log steps the history is a run of the plain machine
-  pub plain : IsPlainRun program (out_of_fuel_in stops) (first_state lim image) (erase h)
+  pub plain : IsPlainRun (setting_of program lim stops) (first_state program lim) (erase h)
   -- at every moment the words say what the plain state says
   pub agrees : (k : ℕ)
-      → Agrees lim (words_left (first_words lim image) (take k h)) (plain_state program lim image stops (take k h))
+      → Agrees lim (words_behind program lim (take k h)) (state_behind program lim stops (take k h))
   -- each recorded stop is the plain run's
-  pub ends : (t : ℕ) → t < 16 → stop_in stops t ≡ stop_of_phase ((plain_state program lim image stops h).phases t)
-  pub main_ended : HasEnded (stop_in stops 0)
+  pub ends : (t : ℕ) → t < 16 → stop_in stops t ≡ stop_of_phase ((state_behind program lim stops h).threads t)
 
--- taken in this order of threads the traces are a history in which every step was answered what its word held
-abbrev pub IsLegalOrder : Bounds → List ℕ → List (List Step) → List ℕ → Type 0
-IsLegalOrder lim image traces order =
-    (h : History) × (threads_of h ≡ order) × Interleaves traces h × IsLegal (first_words lim image) h
+-- in this order of threads the traces are legal
+abbrev pub IsLegalOrder : Program → Bounds → List (List Step) → List ℕ → Type 0
+IsLegalOrder program lim traces order =
+    (h : History) × (threads_of h ≡ order) × Interleaves traces h × IsLegalRun program lim h
 
--- some order of the traces is one in which every step was answered what its word held
-abbrev pub HasLegalOrder : Bounds → List ℕ → List (List Step) → Type 0
-HasLegalOrder lim image traces = ∥ ((h : History) × Interleaves traces h × IsLegal (first_words lim image) h) ∥₁
+-- some order of the traces is legal
+abbrev pub HasLegalOrder : Program → Bounds → List (List Step) → Type 0
+HasLegalOrder program lim traces = ∥ ((h : History) × Interleaves traces h × IsLegalRun program lim h) ∥₁
 
--- These traces follow the step table, in this order they are legal and leave these words, and they leave the threads
--- there.
-pub record Stands (program : Program) (lim : Bounds) (image : List ℕ) (traces : List (List Step)) (h : History)
-    (words : List ℕ) (threads : ℕ → Thread) : Type 0 where
-  pub interleaves : Interleaves traces h
-  pub legal : IsLegal (first_words lim image) h
-  pub left : words_left (first_words lim image) h ≡ words
-  pub follows : (t : ℕ) → Follows lim t (first_thread lim program t) (trace_of traces t)
-  pub at : (t : ℕ) → thread_after lim t (first_thread lim program t) (trace_of traces t) ≡ threads t
-
--- The main theorem's words: at least one order of the recorded steps is legal, and every legal order is explained.
-pub record IsRunOf (program : Program) (lim : Bounds) (image : List ℕ) (stops : List Stop)
-    (traces : List (List Step)) : Type 0 where
-  pub some_order : HasLegalOrder lim image traces
-  pub every_order : (h : History) → Interleaves traces h → IsLegal (first_words lim image) h
-      → IsExplained program lim image stops traces h
+-- The main theorem's words: the traces follow the program, at least one order of their steps is legal, and in every
+-- legal order they are a run of the plain machine.
+pub record IsRunOf (program : Program) (lim : Bounds) (stops : List Stop) (traces : List (List Step)) : Type 0 where
+  pub recorded : IsRecord program lim stops traces
+  pub some_order : HasLegalOrder program lim traces
+  pub every_order : (h : History) → Interleaves traces h → IsLegalRun program lim h
+      → IsExplained program lim stops h

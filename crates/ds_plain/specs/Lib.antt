@@ -1,7 +1,11 @@
 pub mod Behaviour
+pub mod Parts
+pub mod State
 pub mod Plain
 pub mod Table
 pub mod Thread
 pub mod History
 pub mod Explained
+pub mod Turns
+pub mod Stands
 pub mod Small

@@ -7,10 +7,17 @@ use Rattle.ds_step.specs.declared.WordOp.{WordOp}
 use Rattle.ds_step.specs.declared.Event.{Event}
 use Rattle.ds_step.specs.declared.Event.TheVariants as events
 use Rattle.ds_step.specs.declared.Step.{Step}
+use Rattle.ds_plain.specs.declared.Stop.{Stop}
+use Rattle.ds_plain.specs.declared.Stop.TheVariants.{Idle, Running, Returned, Trap, Full, Fuel}
 use Rattle.ds_plain.specs.declared.Request.{Request}
 use Rattle.ds_plain.specs.declared.Request.TheVariants as requests
+use Rattle.ds_plain.specs.declared.StartAt.{StartAt}
+use Rattle.ds_plain.specs.declared.StartAt.TheVariants.{LoadStart}
+use Rattle.ds_plain.specs.declared.AccessAt.{AccessAt}
+use Rattle.ds_plain.specs.declared.AccessAt.TheVariants.{LoadWord, StoreWord}
 use Rattle.ds_plain.specs.declared.Position.{Position}
-use Rattle.ds_plain.specs.declared.Position.TheVariants.{LoadStart, DrawPrint, LoadWord, StoreWord, StoreEnded, Over}
+use Rattle.ds_plain.specs.declared.Position.TheVariants.{Start, Access, DrawPrint, StoreEnded, Over, NoRow}
+use Rattle.ds_plain.specs.Parts.{is_whole}
 
 -- the word that counts the threads given out
 abbrev pub given_word : ℕ
@@ -24,53 +31,107 @@ prints_word = 2
 abbrev pub start_word : ℕ → ℕ
 start_word t = 16 + t
 
--- the operation that thread t makes at a position; one that is over makes none
+-- OPERATIONS
+
+-- a load of a word of the table
+abbrev pub load_of : ℕ → WordOp
+load_of word = record { kind = Load; word = word; a = 0; b = 0 }
+
+-- a store of a value to a word of the table
+abbrev pub store_of : (word value : ℕ) → WordOp
+store_of word value = record { kind = Store; word = word; a = value; b = 0 }
+
+abbrev pub start_op : ℕ → StartAt → WordOp
+start_op t LoadStart = load_of (start_word t)
+
+abbrev pub access_op : Bounds → AccessAt → WordOp
+access_op lim (LoadWord loc) = load_of (word_of lim loc)
+access_op lim (StoreWord loc value) = store_of (word_of lim loc) value
+
+-- the operation that thread t makes at a position; a thread that makes no step makes none
 abbrev pub op_at : Bounds → ℕ → Position → WordOp
-op_at lim t LoadStart = record { kind = Load; word = start_word t; a = 0; b = 0 }
+op_at lim t (Start at) = start_op t at
+op_at lim t (Access at) = access_op lim at
 op_at lim t (DrawPrint value) = record { kind = Add; word = prints_word; a = 1; b = 0 }
-op_at lim t (LoadWord loc) = record { kind = Load; word = word_of lim loc; a = 0; b = 0 }
-op_at lim t (StoreWord loc value) = record { kind = Store; word = word_of lim loc; a = value; b = 0 }
-op_at lim t (StoreEnded stop) = record { kind = Store; word = start_word t; a = 2; b = 0 }
-op_at lim t (Over stop) = record { kind = Load; word = 0; a = 0; b = 0 }
+op_at lim t (StoreEnded stop) = store_of (start_word t) 2
+op_at lim t (Over stop) = load_of 0
+op_at lim t NoRow = load_of 0
+
+-- ROWS
+
+abbrev pub start_row : StartAt → ℕ
+start_row LoadStart = 1
+
+abbrev pub access_row : AccessAt → ℕ
+access_row (LoadWord loc) = 14
+access_row (StoreWord loc value) = 15
 
 -- the number of the row; 0 is none
 abbrev pub row_at : Position → ℕ
-row_at LoadStart = 1
+row_at (Start at) = start_row at
+row_at (Access at) = access_row at
 row_at (DrawPrint value) = 13
-row_at (LoadWord loc) = 14
-row_at (StoreWord loc value) = 15
 row_at (StoreEnded stop) = 12
 row_at (Over stop) = 0
+row_at NoRow = 0
+
+-- EVENTS
 
 -- thread 0 begins where its start word is 1
 abbrev pub begins : ℕ → ℕ → Bool
 begins t old = (t == 0) && (old == 1)
 
+abbrev pub start_event : ℕ → StartAt → ℕ → Event
+start_event t LoadStart old = if begins t old then events.Begin else events.Log
+
+abbrev pub access_event : AccessAt → ℕ → Event
+access_event (LoadWord loc) old = events.Load loc old
+access_event (StoreWord loc value) old = events.Store loc value
+
 -- what the answer means
 abbrev pub event_at : ℕ → Position → ℕ → Event
-event_at t LoadStart old = if begins t old then events.Begin else events.Log
+event_at t (Start at) old = start_event t at old
+event_at t (Access at) old = access_event at old
 event_at t (DrawPrint value) old = events.Print old value
-event_at t (LoadWord loc) old = events.Load loc old
-event_at t (StoreWord loc value) old = events.Store loc value
 event_at t (StoreEnded stop) old = events.End
 event_at t (Over stop) old = events.Log
+event_at t NoRow old = events.Log
 
 -- the step that thread t makes at a position, by its answer
 abbrev pub step_at : Bounds → ℕ → Position → ℕ → Step
 step_at lim t position old =
     record { op = op_at lim t position; old = old; row = row_at position; event = event_at t position old }
 
+-- POSITIONS
+
+-- a thread that asks for a stop ends with it, if it returned or trapped: no other stop is asked for
+abbrev pub end_by : Stop → Position
+end_by Idle = NoRow
+end_by Running = NoRow
+end_by (Returned value) = StoreEnded (Returned value)
+end_by (Trap trap) = StoreEnded (Trap trap)
+end_by (Full place what) = NoRow
+end_by Fuel = NoRow
+
 -- the first position of a request
 abbrev pub position_of : Request → Position
+position_of (requests.Load access) = Access (LoadWord access.loc)
+position_of (requests.Store access value) = if is_whole access then Access (StoreWord access.loc value) else NoRow
+position_of (requests.Rmw access op value) = NoRow
+position_of (requests.Cas access expected new) = NoRow
+position_of (requests.Malloc bytes) = NoRow
+position_of (requests.Free address) = NoRow
+position_of (requests.Note loc value) = NoRow
 position_of (requests.Print value) = DrawPrint value
-position_of (requests.Load loc) = LoadWord loc
-position_of (requests.Store loc value) = StoreWord loc value
-position_of (requests.Finish stop) = StoreEnded stop
+position_of (requests.Spawn loc function arg) = NoRow
+position_of (requests.Join number) = NoRow
+position_of (requests.Stop stop) = end_by stop
 
+-- a thread at this position makes no step
 abbrev pub is_over : Position → Bool
-is_over LoadStart = false
+is_over (Start at) = false
+is_over (Access at) = false
 is_over (DrawPrint value) = false
-is_over (LoadWord loc) = false
-is_over (StoreWord loc value) = false
 is_over (StoreEnded stop) = false
 is_over (Over stop) = true
+is_over NoRow = true

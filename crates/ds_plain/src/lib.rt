@@ -3,20 +3,42 @@
 //! Code and contracts share the types of this crate. Its definitions stand in `specs/`.
 #![tactic(auto)]
 
+use ds_ast::RmwOp;
+use ds_step::FullWhat;
+
 /// Where an instruction stands in the program's text.
 #[derive(Clone, Copy, Debug, PartialEq, Eq)]
 pub struct Place {
     /// The number of its function among all functions of the text, declared ones too, from 0.
     pub function: u32,
-    /// Its number among the instructions of its function, from 0.
+    /// Its number among the instructions of its function, from 0. A note that was added to the text is not counted:
+    /// it has the number of the store before it.
     pub instruction: u32,
 }
 
-/// Why an instruction could not be carried out.
+/// Why an instruction could not be carried out. A marked address has bit 63 set.
 #[derive(Clone, Copy, Debug, PartialEq, Eq)]
 pub enum TrapKind {
+    /// It reads or writes at a marked address, as that of a pointer into a block that was freed.
+    UseAfterFree { address: u64 },
     /// It reads or writes at an address that lies in no region of memory or is no multiple of the access's width.
     BadAddress { address: u64 },
+    /// It frees a block that is not live, or is live again since it asked: `seen` is the block's word as it saw it.
+    DoubleFree { address: u64, seen: u64 },
+    /// It frees an address at which no block starts.
+    BadFree { address: u64 },
+    /// It frees a marked address.
+    MarkedFree { address: u64 },
+    /// It divides by zero.
+    DivZero,
+    /// It divides the least number of its type by -1.
+    DivOverflow,
+    /// It would take more than 4,096 stack words, 1,024 frames or 65,536 cells.
+    StackLimit,
+    /// It is `unreachable`.
+    Unreachable,
+    /// It joins its own thread, or a number that was never given out.
+    BadJoin { number: u64 },
 }
 
 /// An instruction that could not be carried out.
@@ -37,38 +59,94 @@ pub enum Stop {
     Running,
     /// Its function returned, for an `i32` with the 32 bits that it returned.
     Returned(Option<u32>),
-    /// The next instruction or step would have cost more than its fuel.
-    Fuel,
     /// It ended at an instruction that could not be carried out.
     Trap(Trap),
+    /// It ended at the note of a pointer, since a table was full.
+    Full(Place, FullWhat),
+    /// The next instruction or step would have cost more than its fuel.
+    Fuel,
 }
 
-/// What a thread asks of the machine behind its local instructions.
+/// A part of a program word: so many of its bits, from one on. A whole word has shift 0 and 64 bits.
+#[derive(Clone, Copy, Debug, PartialEq, Eq)]
+pub struct Access {
+    /// The number of the program word.
+    pub loc: u32,
+    /// The number of its lowest bit, a multiple of `bits`.
+    pub shift: u8,
+    /// Its width: 8, 16, 32 or 64.
+    pub bits: u8,
+}
+
+/// What a thread asks of the machine behind its local instructions. A location is the number of a program word.
 #[derive(Clone, Copy, Debug, PartialEq, Eq)]
 pub enum Request {
+    /// To load a part of a word. The answer is the whole word.
+    Load(Access),
+    /// To store a value to a part of a word. The answer is 0.
+    Store(Access, u64),
+    /// To change a part of a word in one step, by an operation with a value. The answer is the whole word before.
+    Rmw(Access, RmwOp, u64),
+    /// To change a part of a word to `new` in one step, if it is `expected`. The answer is the whole word before.
+    Cas {
+        access: Access,
+        expected: u64,
+        new: u64,
+    },
+    /// To take a block for so many bytes, of at most 4,095. The answer is its address, or 0 where there is none.
+    Malloc(u64),
+    /// To free the block at an address, which is one of the heap and a multiple of 8. The answer is 0.
+    Free(u64),
+    /// To note that a pointer, which points into the heap and is not marked, was stored at a location. The answer
+    /// is 0.
+    Note {
+        loc: u32,
+        value: u64,
+    },
     /// To print a value, the 64 bits of a signed number. The answer is 0.
-    Print { value: u64 },
-    /// To load the program word of a location, the number of a word of program memory. The answer is the word.
-    Load { loc: u32 },
-    /// To store a value to the program word of a location. The answer is 0.
-    Store { loc: u32, value: u64 },
+    Print(u64),
+    /// To start a function as a thread with an argument, and to store the thread's number at a location. The answer is
+    /// 0, or 11 where no number is left.
+    Spawn {
+        loc: u32,
+        function: u32,
+        arg: u64,
+    },
+    /// To wait until the thread of this number has ended. The answer is 0.
+    Join(u64),
     /// To end with this stop.
-    Finish { stop: Stop },
+    Stop(Stop),
+}
+
+/// Where a thread stands that has not begun.
+#[derive(Clone, Copy, Debug, PartialEq, Eq)]
+pub enum StartAt {
+    /// It loads its own start word, until that lets it begin.
+    LoadStart,
+}
+
+/// Where a thread stands that accesses program memory.
+#[derive(Clone, Copy, Debug, PartialEq, Eq)]
+pub enum AccessAt {
+    /// It loads the program word of a location.
+    LoadWord { loc: u32 },
+    /// It stores a value to the program word of a location.
+    StoreWord { loc: u32, value: u64 },
 }
 
 /// Where a thread stands in the step table: which row it makes next, and what it remembers there.
 #[derive(Clone, Copy, Debug, PartialEq, Eq)]
 pub enum Position {
-    /// It loads its own start word, until that lets it begin.
-    LoadStart,
+    /// It has not begun.
+    Start(StartAt),
+    /// It accesses program memory.
+    Access(AccessAt),
     /// It draws the next print number.
     DrawPrint { value: u64 },
-    /// It loads the program word of a location.
-    LoadWord { loc: u32 },
-    /// It stores a value to the program word of a location.
-    StoreWord { loc: u32, value: u64 },
     /// It marks its start word as ended.
     StoreEnded { stop: Stop },
     /// It has ended, and makes no step.
     Over { stop: Stop },
+    /// It asks for what the table has no row for yet, and makes no step.
+    NoRow,
 }

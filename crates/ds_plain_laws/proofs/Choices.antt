@@ -1,7 +1,7 @@
 -- A value that a test chooses, and a function with one value replaced.
 use Rattle.std.proofs.Common.{◌≡◌, ℕ, Bool, true, false, if◌then◌else◌, refl}
 use Rattle.std.proofs.lemmas.Bool.{eq-eqb, ne_eqb}
-use Rattle.ds_plain.specs.Plain.{replaced}
+use Rattle.ds_plain.specs.State.{replaced}
 
 -- what holds of both answers of a test holds of the answer
 pub of_if : {A : Type 0} (P : A → Type 0) (b : Bool) (x y : A) → P x → P y → P (if b then x else y)

@@ -5,31 +5,33 @@ use Rattle.std.proofs.Common.{ltb-true, leb-true}
 use Rattle.std.proofs.lemmas.Bool.{cases_eq, eq-eqb, ne_eqb}
 use Rattle.ds_map.specs.Bounds.{Bounds}
 use Rattle.ds_step.specs.declared.Step.{Step}
+use Rattle.ds_plain.specs.declared.Stop.{Stop}
 use Rattle.ds_plain.specs.declared.Stop.TheVariants.{Fuel}
-use Rattle.ds_plain.specs.declared.Request.{Request}
-use Rattle.ds_plain.specs.declared.Request.TheVariants as requests
+use Rattle.ds_plain.specs.declared.StartAt.TheVariants.{LoadStart}
+use Rattle.ds_plain.specs.declared.AccessAt.TheVariants.{LoadWord, StoreWord}
 use Rattle.ds_plain.specs.declared.Position.{Position}
-use Rattle.ds_plain.specs.declared.Position.TheVariants.{LoadStart, DrawPrint, LoadWord, StoreWord, StoreEnded, Over}
-use Rattle.ds_plain.specs.Behaviour.{Asked, Asks, Silent, Behaviour, told}
+use Rattle.ds_plain.specs.declared.Position.TheVariants.{Start, DrawPrint, StoreEnded, Over, NoRow}
+use Rattle.ds_plain.specs.declared.Position.TheVariants as positions
+use Rattle.ds_plain.specs.Behaviour.{Asked, Asks, Silent, Behaviour, told, Program}
 use Rattle.ds_plain.specs.Table.{begins, position_of, is_over}
-use Rattle.ds_plain.specs.Thread.{Thread, paying, standing, arriving, moved, Follows}
+use Rattle.ds_plain.specs.Thread.{Thread, paying, standing, arriving, going_on, moved_from, Follows}
 use Rattle.ds_plain.specs.History.{History, steps_of}
 use Rattle.ds_plain_laws.proofs.Choices.{of_if}
 
 -- a thread that is over makes no step
-pub over_rest : (lim : Bounds) (t : ℕ) (a : Thread) (ss : List Step) → is_over a.position ≡ true → Follows lim t a ss
-    → ss ≡ []
-over_rest lim t a [] over follows = refl
-over_rest lim t a (s ∷ ss) over follows = absurd (cc (over, follows.0))
+pub over_rest : (program : Program) (lim : Bounds) (t : ℕ) (a : Thread) (ss : List Step) → is_over a.position ≡ true
+    → Follows program lim t a ss → ss ≡ []
+over_rest program lim t a [] over follows = refl
+over_rest program lim t a (s ∷ ss) over follows = absurd (cc (over, follows.0))
 
 -- what a thread at this position has spent, and what it has left to spend
 abbrev pub HasPaid : Bounds → ℕ → Position → Type 0
-HasPaid lim units LoadStart = units < lim.fuel
+HasPaid lim units (Start at) = units < lim.fuel
+HasPaid lim units (positions.Access at) = units < lim.fuel
 HasPaid lim units (DrawPrint value) = units < lim.fuel
-HasPaid lim units (LoadWord loc) = units < lim.fuel
-HasPaid lim units (StoreWord loc value) = units < lim.fuel
 HasPaid lim units (StoreEnded stop) = units ≤ lim.fuel
 HasPaid lim units (Over stop) = units ≤ lim.fuel
+HasPaid lim units NoRow = units < lim.fuel
 
 -- the thread has spent at least this much, and no more than it may
 pub record Pays (lim : Bounds) (low : ℕ) (a : Thread) : Type 0 where
@@ -51,73 +53,90 @@ module _ (lim : Bounds) where
       (λ e. record { paid = paid (ltb-true units lim.fuel e); least = omega arith })
       (record { paid = le; least = omega arith })
 
-  pub waiting_pays : (rest : Behaviour) (units : ℕ) (began : Bool) → units ≤ lim.fuel
-      → Pays lim units (standing lim rest units began LoadStart)
-  waiting_pays rest units began le = paying_pays rest units began LoadStart (λ lt. lt) le
+  pub standing_pays : (rest : Behaviour) (units : ℕ) (began : Bool) (p : Position) → units ≤ lim.fuel
+      → Pays lim units (standing lim rest units began p)
+  standing_pays rest units began (Start at) le = paying_pays rest units began (Start at) (λ lt. lt) le
+  standing_pays rest units began (positions.Access at) le =
+      paying_pays rest units began (positions.Access at) (λ lt. lt) le
+  standing_pays rest units began (DrawPrint value) le = paying_pays rest units began (DrawPrint value) (λ lt. lt) le
+  standing_pays rest units began (StoreEnded stop) le = record { paid = le; least = omega arith }
+  standing_pays rest units began (Over stop) le = record { paid = le; least = omega arith }
+  standing_pays rest units began NoRow le = paying_pays rest units began NoRow (λ lt. lt) le
 
   -- a thread that comes to its request
-  standing_pays : (rest : Behaviour) (units : ℕ) (request : Request) → units ≤ lim.fuel
-      → Pays lim units (standing lim rest units true (position_of request))
-  standing_pays rest units (requests.Print value) le = paying_pays rest units true (DrawPrint value) (λ lt. lt) le
-  standing_pays rest units (requests.Load loc) le = paying_pays rest units true (LoadWord loc) (λ lt. lt) le
-  standing_pays rest units (requests.Store loc value) le =
-      paying_pays rest units true (StoreWord loc value) (λ lt. lt) le
-  standing_pays rest units (requests.Finish stop) le = record { paid = le; least = omega arith }
-
-  pub arriving_pays : (rest : Behaviour) (units : ℕ) (asked : Asked) → units ≤ lim.fuel
+  arriving_pays : (rest : Behaviour) (units : ℕ) (asked : Asked) → units ≤ lim.fuel
       → Pays lim units (arriving lim rest units asked)
-  arriving_pays rest units (Asks n request) le =
-      pays_if lim units (nat_le (units + n) lim.fuel) (standing lim rest (units + n) true (position_of request))
+  arriving_pays rest units (Asks begun place request) le =
+      pays_if lim units (nat_le (units + begun) lim.fuel)
+      (standing lim rest (units + begun) true (position_of request))
       (record { rest = rest; position = StoreEnded Fuel; units = lim.fuel; began = true })
-      (λ e. let pays = standing_pays rest (units + n) request (leb-true (units + n) lim.fuel e) in
+      (λ e. let pays = standing_pays rest (units + begun) true (position_of request)
+      (leb-true (units + begun) lim.fuel e) in
       record { paid = pays.paid; least = omega (arith, pays.least) })
       (record { paid = omega arith; least = le })
   arriving_pays rest units Silent le = record { paid = omega arith; least = le }
 
-  -- the steps of a thread that comes to its next request
-  counted_on : (rest : Behaviour) (units : ℕ) (asked : Asked) (n : ℕ) → units + 1 ≤ lim.fuel
-      → (Pays lim (units + 1) (arriving lim rest (units + 1) asked)
-      → n + (arriving lim rest (units + 1) asked).units ≤ lim.fuel + 1) → suc n + units ≤ lim.fuel + 1
-  counted_on rest units asked n le more =
-      let pays = arriving_pays rest (units + 1) asked le in
-      omega (arith, more pays, pays.least)
+  -- the next request is never dearer than the fuel
+  going_pays : (units : ℕ) (rest : Behaviour) → units ≤ lim.fuel → Pays lim units (going_on lim units rest)
+  going_pays units rest le = arriving_pays rest units (rest []) le
+
+module _ (program : Program) (lim : Bounds) (t : ℕ) where
+  -- how a thread at a position goes on, by an answer
+  abbrev after : Position → Behaviour → ℕ → Bool → ℕ → Thread
+  after p rest units began old =
+      moved_from program lim t (record { rest = rest; position = p; units = units; began = began }) p old
+
+  -- each step but the last costs a unit
+  step_pays : (p : Position) (rest : Behaviour) (units : ℕ) (began : Bool) (old : ℕ) → units < lim.fuel
+      → is_over p ≡ false → ((stop : Stop) → p ≡ StoreEnded stop → ⊥)
+      → Pays lim (units + 1) (after p rest units began old)
+  step_pays (Start LoadStart) rest units began old lt over goes =
+      of_if (Pays lim (units + 1)) (begins t old) (going_on lim (units + 1) (program.behaves t program.main 0))
+      (standing lim rest (units + 1) began (Start LoadStart))
+      (going_pays lim (units + 1) (program.behaves t program.main 0) (omega arith))
+      (standing_pays lim rest (units + 1) began (Start LoadStart) (omega arith))
+  step_pays (positions.Access (LoadWord loc)) rest units began old lt over goes =
+      going_pays lim (units + 1) (told rest old) (omega arith)
+  step_pays (positions.Access (StoreWord loc value)) rest units began old lt over goes =
+      going_pays lim (units + 1) (told rest 0) (omega arith)
+  step_pays (DrawPrint value) rest units began old lt over goes =
+      going_pays lim (units + 1) (told rest 0) (omega arith)
+  step_pays (StoreEnded stop) rest units began old lt over goes = absurd (goes stop refl)
+  step_pays (Over stop) rest units began old lt over goes = absurd (cc (over))
+  step_pays NoRow rest units began old lt over goes = absurd (cc (over))
 
   -- a trace that follows has no more steps than the fuel pays for, and the last
-  pub trace_length : (t : ℕ) (ss : List Step) (rest : Behaviour) (p : Position) (units : ℕ) (began : Bool)
-      → HasPaid lim units p → Follows lim t (record { rest = rest; position = p; units = units; began = began }) ss
+  pub trace_length : (ss : List Step) (rest : Behaviour) (p : Position) (units : ℕ) (began : Bool)
+      → HasPaid lim units p
+      → Follows program lim t (record { rest = rest; position = p; units = units; began = began }) ss
       → length ss + units ≤ lim.fuel + 1
-  trace_length t [] rest LoadStart units began paid follows = omega arith
-  trace_length t [] rest (DrawPrint value) units began paid follows = omega arith
-  trace_length t [] rest (LoadWord loc) units began paid follows = omega arith
-  trace_length t [] rest (StoreWord loc value) units began paid follows = omega arith
-  trace_length t [] rest (StoreEnded stop) units began paid follows = omega arith
-  trace_length t [] rest (Over stop) units began paid follows = omega arith
-  trace_length t (s ∷ ss) rest LoadStart units began paid follows =
-      let a : Thread = moved lim t (record { rest = rest; position = LoadStart; units = units; began = began })
-      s.old in
-      let pays : Pays lim (units + 1) a =
-      of_if (Pays lim (units + 1)) (begins t s.old) (arriving lim rest (units + 1) (rest []))
-      (standing lim rest (units + 1) began LoadStart)
-      (arriving_pays rest (units + 1) (rest []) (omega arith)) (waiting_pays rest (units + 1) began (omega arith)) in
-      let more = trace_length t ss a.rest a.position a.units a.began pays.paid follows.2 in
-      omega (arith, more, pays.least)
-  trace_length t (s ∷ ss) rest (DrawPrint value) units began paid follows =
-      let a : Thread = arriving lim (told rest 0) (units + 1) (rest (0 ∷ [])) in
-      counted_on (told rest 0) units (rest (0 ∷ [])) (length ss) (omega arith)
-      (λ pays. trace_length t ss a.rest a.position a.units a.began pays.paid follows.2)
-  trace_length t (s ∷ ss) rest (LoadWord loc) units began paid follows =
-      let a : Thread = arriving lim (told rest s.old) (units + 1) (rest (s.old ∷ [])) in
-      counted_on (told rest s.old) units (rest (s.old ∷ [])) (length ss) (omega arith)
-      (λ pays. trace_length t ss a.rest a.position a.units a.began pays.paid follows.2)
-  trace_length t (s ∷ ss) rest (StoreWord loc value) units began paid follows =
-      let a : Thread = arriving lim (told rest 0) (units + 1) (rest (0 ∷ [])) in
-      counted_on (told rest 0) units (rest (0 ∷ [])) (length ss) (omega arith)
-      (λ pays. trace_length t ss a.rest a.position a.units a.began pays.paid follows.2)
-  trace_length t (s ∷ ss) rest (StoreEnded stop) units began paid follows =
-      let none = over_rest lim t (record { rest = rest; position = Over stop; units = units; began = began }) ss refl
-      follows.2 in
+  trace_length [] rest (Start at) units began paid follows = omega arith
+  trace_length [] rest (positions.Access at) units began paid follows = omega arith
+  trace_length [] rest (DrawPrint value) units began paid follows = omega arith
+  trace_length [] rest (StoreEnded stop) units began paid follows = omega arith
+  trace_length [] rest (Over stop) units began paid follows = omega arith
+  trace_length [] rest NoRow units began paid follows = omega arith
+  trace_length (s ∷ ss) rest (StoreEnded stop) units began paid follows =
+      let none = over_rest program lim t
+      (record { rest = rest; position = Over stop; units = units; began = began }) ss refl follows.2 in
       omega (arith, ap length none)
-  trace_length t (s ∷ ss) rest (Over stop) units began paid follows = absurd (cc (follows.0))
+  trace_length (s ∷ ss) rest (Over stop) units began paid follows = absurd (cc (follows.0))
+  trace_length (s ∷ ss) rest NoRow units began paid follows = absurd (cc (follows.0))
+  trace_length (s ∷ ss) rest (Start at) units began paid follows =
+      let a : Thread = after (Start at) rest units began s.old in
+      let pays = step_pays (Start at) rest units began s.old paid follows.0 (λ stop e. cc) in
+      let more = trace_length ss a.rest a.position a.units a.began pays.paid follows.2 in
+      omega (arith, more, pays.least)
+  trace_length (s ∷ ss) rest (positions.Access at) units began paid follows =
+      let a : Thread = after (positions.Access at) rest units began s.old in
+      let pays = step_pays (positions.Access at) rest units began s.old paid follows.0 (λ stop e. cc) in
+      let more = trace_length ss a.rest a.position a.units a.began pays.paid follows.2 in
+      omega (arith, more, pays.least)
+  trace_length (s ∷ ss) rest (DrawPrint value) units began paid follows =
+      let a : Thread = after (DrawPrint value) rest units began s.old in
+      let pays = step_pays (DrawPrint value) rest units began s.old paid follows.0 (λ stop e. cc) in
+      let more = trace_length ss a.rest a.position a.units a.began pays.paid follows.2 in
+      omega (arith, more, pays.least)
 
 -- a history without the steps of one thread
 abbrev without : ℕ → History → History

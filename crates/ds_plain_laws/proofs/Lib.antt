@@ -1,7 +1,9 @@
 pub mod Choices
 pub mod Pushes
 pub mod Words
+pub mod Phases
 pub mod Links
+pub mod Makes
 pub mod Counts
 pub mod Runs
 pub mod Recorded

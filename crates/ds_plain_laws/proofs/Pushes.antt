@@ -9,11 +9,12 @@ use Rattle.ds_step.specs.declared.WordOp.{WordOp}
 use Rattle.ds_step.specs.declared.Step.{Step}
 use Rattle.ds_step.specs.Word.{words_after, answer_on}
 use Rattle.ds_plain.specs.Behaviour.{Program}
-use Rattle.ds_plain.specs.Plain.{replaced}
+use Rattle.ds_plain.specs.State.{replaced}
 use Rattle.ds_plain.specs.Table.{step_at, is_over}
 use Rattle.ds_plain.specs.Thread.{Thread, first_thread, Follows, thread_after, moved}
 use Rattle.ds_plain.specs.History.{History, steps_of, Answers, words_at_end}
-use Rattle.ds_plain.specs.Explained.{trace_of, Stands}
+use Rattle.ds_plain.specs.Explained.{trace_of}
+use Rattle.ds_plain.specs.Stands.{Stands}
 use Rattle.ds_plain_laws.specs.Laws.{next_step}
 use Rattle.ds_plain_laws.proofs.Choices.{replaced_same, replaced_other}
 
@@ -43,22 +44,23 @@ pub steps_of-push_other : (u t : ℕ) (h : History) (s : Step) → (u ≡ t → 
 steps_of-push_other u t [] s ne = rw (ne_eqb u t ne)
 steps_of-push_other u t (e ∷ h) s ne = ap (λ w. if u == e.0 then e.1 ∷ w else w) (steps_of-push_other u t h s ne)
 
-module _ (lim : Bounds) (t : ℕ) where
-  pub follows_push : (a : Thread) (ss : List Step) (s : Step) → Follows lim t a ss
-      → is_over (thread_after lim t a ss).position ≡ false → s ≡ step_at lim t (thread_after lim t a ss).position s.old
-      → Follows lim t a (ss ++ s ∷ [])
+module _ (program : Program) (lim : Bounds) (t : ℕ) where
+  pub follows_push : (a : Thread) (ss : List Step) (s : Step) → Follows program lim t a ss
+      → is_over (thread_after program lim t a ss).position ≡ false
+      → s ≡ step_at lim t (thread_after program lim t a ss).position s.old
+      → Follows program lim t a (ss ++ s ∷ [])
   follows_push a [] s follows over is = (over, is, tt)
   follows_push a (x ∷ ss) s follows over is =
-      (follows.0, follows.1, follows_push (moved lim t a x.old) ss s follows.2 over is)
+      (follows.0, follows.1, follows_push (moved program lim t a x.old) ss s follows.2 over is)
 
   pub after_push : (a : Thread) (ss : List Step) (s : Step)
-      → thread_after lim t a (ss ++ s ∷ []) ≡ moved lim t (thread_after lim t a ss) s.old
+      → thread_after program lim t a (ss ++ s ∷ []) ≡ moved program lim t (thread_after program lim t a ss) s.old
   after_push a [] s = refl
-  after_push a (x ∷ ss) s = after_push (moved lim t a x.old) ss s
+  after_push a (x ∷ ss) s = after_push (moved program lim t a x.old) ss s
 
-module _ (program : Program) (lim : Bounds) (image : List ℕ) (traces : List (List Step)) (h : History) (words : List ℕ)
+module _ (program : Program) (lim : Bounds) (traces : List (List Step)) (h : History) (words : List ℕ)
     (threads : ℕ → Thread) (t : ℕ)
-    (within : t < length traces) (stands : Stands program lim image traces h words threads)
+    (within : t < length traces) (stands : Stands program lim traces h words threads)
     (over : is_over (threads t).position ≡ false) where
   abbrev step : Step
   step = next_step lim words threads t
@@ -78,35 +80,35 @@ module _ (program : Program) (lim : Bounds) (image : List ℕ) (traces : List (L
   interleaves_more u (inr ne) =
       steps_of-push_other u t h step (λ e. ne (sym e)) ∙ (stands.interleaves u ∙ sym (trace_other u ne))
 
-  follows_more : (u : ℕ) → ((t ≡ u) ⊎ (t ≡ u → ⊥)) → Follows lim u (first_thread lim program u) (trace_of traces' u)
+  follows_more : (u : ℕ) → ((t ≡ u) ⊎ (t ≡ u → ⊥)) → Follows program lim u (first_thread lim) (trace_of traces' u)
   follows_more u (inl e) =
-      let at : thread_after lim t (first_thread lim program t) (trace_of traces t) ≡ threads t = stands.at t in
-      let this : Follows lim t (first_thread lim program t) (trace_of traces t ++ step ∷ []) =
-      follows_push lim t (first_thread lim program t) (trace_of traces t) step (stands.follows t) (rw at over)
+      let at : thread_after program lim t (first_thread lim) (trace_of traces t) ≡ threads t = stands.at t in
+      let this : Follows program lim t (first_thread lim) (trace_of traces t ++ step ∷ []) =
+      follows_push program lim t (first_thread lim) (trace_of traces t) step (stands.follows t) (rw at over)
       (rw at refl) in
-      subst (λ u. Follows lim u (first_thread lim program u) (trace_of traces' u)) e (rw trace_same this)
+      subst (λ u. Follows program lim u (first_thread lim) (trace_of traces' u)) e (rw trace_same this)
   follows_more u (inr ne) = rw (trace_other u ne) (stands.follows u)
 
   at_more : (u : ℕ) → ((t ≡ u) ⊎ (t ≡ u → ⊥))
-      → thread_after lim u (first_thread lim program u) (trace_of traces' u) ≡ replaced threads t
-      (moved lim t (threads t) step.old) u
+      → thread_after program lim u (first_thread lim) (trace_of traces' u) ≡ replaced threads t
+      (moved program lim t (threads t) step.old) u
   at_more u (inl e) =
-      let this = ap (thread_after lim t (first_thread lim program t)) trace_same
-      ∙ (after_push lim t (first_thread lim program t) (trace_of traces t) step
-      ∙ (ap (λ a. moved lim t a step.old) (stands.at t)
-      ∙ sym (replaced_same threads t (moved lim t (threads t) step.old)))) in
-      subst (λ u. thread_after lim u (first_thread lim program u) (trace_of traces' u) ≡ replaced threads t
-      (moved lim t (threads t) step.old) u) e this
-  at_more u (inr ne) = ap (thread_after lim u (first_thread lim program u)) (trace_other u ne)
-      ∙ (stands.at u ∙ sym (replaced_other threads t (moved lim t (threads t) step.old) u ne))
+      let this = ap (thread_after program lim t (first_thread lim)) trace_same
+      ∙ (after_push program lim t (first_thread lim) (trace_of traces t) step
+      ∙ (ap (λ a. moved program lim t a step.old) (stands.at t)
+      ∙ sym (replaced_same threads t (moved program lim t (threads t) step.old)))) in
+      subst (λ u. thread_after program lim u (first_thread lim) (trace_of traces' u) ≡ replaced threads t
+      (moved program lim t (threads t) step.old) u) e this
+  at_more u (inr ne) = ap (thread_after program lim u (first_thread lim)) (trace_other u ne)
+      ∙ (stands.at u ∙ sym (replaced_other threads t (moved program lim t (threads t) step.old) u ne))
 
-  pub one_more : Stands program lim image traces' (h ++ (t, step) ∷ []) (words_after words step.op)
-      (replaced threads t (moved lim t (threads t) step.old))
+  pub one_more : Stands program lim traces' (h ++ (t, step) ∷ []) (words_after words step.op)
+      (replaced threads t (moved program lim t (threads t) step.old))
   one_more = record {
     interleaves = λ u. interleaves_more u (cases_eq t u);
-    legal = answers_push (λ (e : ℕ × Step). e.1.op) (λ (e : ℕ × Step). e.1.old) (first_words lim image) h
+    legal = answers_push (λ (e : ℕ × Step). e.1.op) (λ (e : ℕ × Step). e.1.old) (first_words lim program.image) h
         (t, step) stands.legal (ap (λ w. answer_on w step.op) (sym stands.left));
-    left = words_push (λ (e : ℕ × Step). e.1.op) (λ (e : ℕ × Step). e.1.old) (first_words lim image) h (t, step)
+    left = words_push (λ (e : ℕ × Step). e.1.op) (λ (e : ℕ × Step). e.1.old) (first_words lim program.image) h (t, step)
         ∙ ap (λ w. words_after w step.op) stands.left;
     follows = λ u. follows_more u (cases_eq t u);
     at = λ u. at_more u (cases_eq t u);

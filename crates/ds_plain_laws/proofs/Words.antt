@@ -1,43 +1,95 @@
 -- What a step does to the words, and that they go on to say what the plain state says.
-use Rattle.std.proofs.Common.{◌≡◌, ℕ, ◌+◌, ◌-◌, ◌<◌, List, ◌++◌, length, drop, replicate, slice_index, slice_set, refl}
-use Rattle.std.proofs.Common.{sym, ap, ◌∙◌, subst, arith}
-use Rattle.std.proofs.lemmas.List.{append_assoc, length-append, length-replicate, drop_at, drop-set-lt, drop-set-add}
-use Rattle.std.proofs.lemmas.List.{get_or-drop, get_or-set_other, set-get_or}
+use Rattle.std.proofs.Common.{◌≡◌, ℕ, ◌+◌, ◌-◌, ◌*◌, ◌%◌, ◌^◌, ◌<◌, ◌≤◌, List, [], ◌∷◌, ◌++◌, length, drop, replicate}
+use Rattle.std.proofs.Common.{slice_index, slice_set, refl, sym, ap, ◌∙◌, subst, arith, mod-eq_of_lt}
+use Rattle.std.proofs.lemmas.List.{append_assoc, length-append, length-replicate, length_push, drop_at, drop-set-lt}
+use Rattle.std.proofs.lemmas.List.{drop-set-add, get_or-drop, get_or-set_same, get_or-set_other, set-get_or}
+use Rattle.std.proofs.lemmas.List.{get_or_append_left, get_or-append_right, get_or-replicate}
 use Rattle.ds_map.specs.Bounds.{Bounds}
 use Rattle.ds_map.specs.Regions.{program_words}
-use Rattle.ds_map.specs.Words.{control_words, first_program_word, word_of, first_control_words, first_words}
-use Rattle.ds_plain.specs.Plain.{State, first_state}
+use Rattle.ds_map.specs.Blocks.{page_word}
+use Rattle.ds_map.specs.Words.{control_words, first_page_word, first_block_word, first_home_word, first_program_word}
+use Rattle.ds_map.specs.Words.{word_of, first_control_words, first_words}
+use Rattle.ds_plain.specs.Behaviour.{Program}
+use Rattle.ds_plain.specs.State.{State, first_state, block_word}
+use Rattle.ds_plain.specs.Table.{prints_word}
 use Rattle.ds_plain.specs.Explained.{Agrees}
 
+-- the counts, the pages and the blocks are the same in both states
+pub record SameTables (s s' : State) : Type 0 where
+  pub given : s'.given ≡ s.given
+  pub out : s'.out ≡ s.out
+  pub pages : s'.pages ≡ s.pages
+  pub blocks : s'.blocks ≡ s.blocks
+
 module _ (lim : Bounds) (words : List ℕ) (s s' : State) (agrees : Agrees lim words s) where
+  -- a word that is none of a page or a block, where pages and blocks are the same
+  module _ (i v : ℕ) (apart : (k : ℕ) → control_words ≤ k → k < first_home_word lim → k ≡ i → ⊥) where
+    pages_kept : s'.pages ≡ s.pages → (page : ℕ) → page < lim.pages
+        → slice_index (slice_set words i v) (first_page_word + page) ≡ page_word (s'.pages page)
+    pages_kept same page lt =
+        get_or-set_other words i (first_page_word + page) v 0
+        (apart (first_page_word + page) (omega arith) (omega arith))
+        ∙ (agrees.pages page lt ∙ ap (λ pages. page_word (pages page)) (sym same))
+
+    blocks_kept : s'.blocks ≡ s.blocks → (place : ℕ) → place < 256 * lim.pages
+        → slice_index (slice_set words i v) (first_block_word lim + place) ≡ block_word (s'.blocks place)
+    blocks_kept same place lt =
+        get_or-set_other words i (first_block_word lim + place) v 0
+        (apart (first_block_word lim + place) (omega arith) (omega arith))
+        ∙ (agrees.blocks place lt ∙ ap (λ blocks. block_word (blocks place)) (sym same))
+
   -- a load leaves the words as they are
-  pub agrees_loaded : (i : ℕ) → s'.given ≡ s.given → s'.out ≡ s.out → s'.words ≡ s.words
+  pub agrees_loaded : (i : ℕ) → SameTables s s' → s'.words ≡ s.words
       → Agrees lim (slice_set words i (slice_index words i)) s'
-  agrees_loaded i given out same =
+  agrees_loaded i same words_same =
       subst (λ (ws : List ℕ). Agrees lim ws s') (sym (set-get_or words i 0)) (record {
-        given = agrees.given ∙ sym given;
-        prints = agrees.prints ∙ sym (ap length out);
-        program = agrees.program ∙ sym same;
+        given = agrees.given ∙ sym same.given;
+        prints = agrees.prints ∙ sym (ap length same.out);
+        pages = λ page lt. agrees.pages page lt ∙ ap (λ pages. page_word (pages page)) (sym same.pages);
+        blocks = λ place lt. agrees.blocks place lt ∙ ap (λ blocks. block_word (blocks place)) (sym same.blocks);
+        program = agrees.program ∙ sym words_same;
       })
 
-  -- a control word behind the counters says nothing of the plain state
-  pub agrees_marked : (i v : ℕ) → 2 < i → i < control_words → s'.given ≡ s.given → s'.out ≡ s.out → s'.words ≡ s.words
+  -- a control word behind the counts says nothing of the plain state
+  pub agrees_marked : (i v : ℕ) → 2 < i → i < control_words → SameTables s s' → s'.words ≡ s.words
       → Agrees lim (slice_set words i v) s'
-  agrees_marked i v beyond control given out same = record {
-    given = get_or-set_other words i 1 v 0 (omega arith) ∙ (agrees.given ∙ sym given);
-    prints = get_or-set_other words i 2 v 0 (omega arith) ∙ (agrees.prints ∙ sym (ap length out));
-    program = drop-set-lt (first_program_word lim) words i v (omega arith) ∙ (agrees.program ∙ sym same);
+  agrees_marked i v beyond control same words_same = record {
+    given = get_or-set_other words i 1 v 0 (omega arith) ∙ (agrees.given ∙ sym same.given);
+    prints = get_or-set_other words i 2 v 0 (omega arith) ∙ (agrees.prints ∙ sym (ap length same.out));
+    pages = pages_kept i v (λ k le lt e. omega arith) same.pages;
+    blocks = blocks_kept i v (λ k le lt e. omega arith) same.blocks;
+    program = drop-set-lt (first_program_word lim) words i v (omega arith) ∙ (agrees.program ∙ sym words_same);
   }
 
-  -- a program word lies behind every control word
-  pub agrees_stored : (loc v : ℕ) → s'.given ≡ s.given → s'.out ≡ s.out → s'.words ≡ slice_set s.words loc v
+  -- a program word lies behind all others
+  pub agrees_stored : (loc v : ℕ) → SameTables s s' → s'.words ≡ slice_set s.words loc v
       → Agrees lim (slice_set words (word_of lim loc) v) s'
-  agrees_stored loc v given out stored = record {
-    given = get_or-set_other words (word_of lim loc) 1 v 0 (omega arith) ∙ (agrees.given ∙ sym given);
-    prints = get_or-set_other words (word_of lim loc) 2 v 0 (omega arith) ∙ (agrees.prints ∙ sym (ap length out));
+  agrees_stored loc v same stored = record {
+    given = get_or-set_other words (word_of lim loc) 1 v 0 (omega arith) ∙ (agrees.given ∙ sym same.given);
+    prints = get_or-set_other words (word_of lim loc) 2 v 0 (omega arith) ∙ (agrees.prints ∙ sym (ap length same.out));
+    pages = pages_kept (word_of lim loc) v (λ k le lt e. omega arith) same.pages;
+    blocks = blocks_kept (word_of lim loc) v (λ k le lt e. omega arith) same.blocks;
     program = drop-set-add (first_program_word lim) words loc v
         ∙ (ap (λ (ws : List ℕ). slice_set ws loc v) agrees.program ∙ sym stored);
   }
+
+  -- the count of the prints rises by one
+  pub agrees_printed : (value : ℕ) → 2 < length words → length s.out + 1 < 2 ^ 64 → s'.given ≡ s.given
+      → s'.out ≡ s.out ++ value ∷ [] → s'.pages ≡ s.pages → s'.blocks ≡ s.blocks → s'.words ≡ s.words
+      → Agrees lim (slice_set words prints_word ((slice_index words prints_word + 1) % 2 ^ 64)) s'
+  agrees_printed value roomy few given out pages blocks words_same =
+      let count : ℕ = (slice_index words prints_word + 1) % 2 ^ 64 in
+      let next : count ≡ length s'.out =
+      ap (λ n. (n + 1) % 2 ^ 64) agrees.prints
+      ∙ (mod-eq_of_lt few ∙ (sym (length_push s.out value) ∙ sym (ap length out))) in
+      record {
+        given = get_or-set_other words 2 1 count 0 (omega arith) ∙ (agrees.given ∙ sym given);
+        prints = get_or-set_same words 2 count 0 roomy ∙ next;
+        pages = pages_kept 2 count (λ k le lt e. omega arith) pages;
+        blocks = blocks_kept 2 count (λ k le lt e. omega arith) blocks;
+        program = drop-set-lt (first_program_word lim) words 2 count (omega arith)
+            ∙ (agrees.program ∙ sym words_same);
+      }
 
 -- the word of a location is the plain word there
 pub program_word : (lim : Bounds) (words : List ℕ) (s : State) → Agrees lim words s → (loc : ℕ)
@@ -45,12 +97,26 @@ pub program_word : (lim : Bounds) (words : List ℕ) (s : State) → Agrees lim 
 program_word lim words s agrees loc =
     sym (get_or-drop (first_program_word lim) words loc 0) ∙ ap (λ (ws : List ℕ). slice_index ws loc) agrees.program
 
+-- AT THE START
+
 -- what lies behind the front of a list
 behind : (front zeros image rest : List ℕ) (n : ℕ) → length front + length zeros ≡ n
     → drop n (front ++ zeros ++ image ++ rest) ≡ image ++ rest
 behind front zeros image rest n is =
     ap (drop n) (append_assoc (front ++ zeros) image rest) ∙ drop_at (front ++ zeros) (image ++ rest) n
     (length-append front zeros ∙ is)
+
+-- what lies between
+between : (front image rest : List ℕ) (n k : ℕ) → length front ≤ k → k < length front + n
+    → slice_index (front ++ replicate n 0 ++ image ++ rest) k ≡ 0
+between front image rest n k le lt =
+    let long : length (front ++ replicate n 0) ≡ length front + n =
+    length-append front (replicate n 0) ∙ ap (λ m. length front + m) (length-replicate {A = ℕ} n 0) in
+    get_or_append_left (front ++ replicate n 0 ++ image) rest 0 k
+    (omega (arith, length-append (front ++ replicate n 0) image, long))
+    ∙ (get_or_append_left (front ++ replicate n 0) image 0 k (omega (arith, long))
+    ∙ (get_or-append_right front (replicate n 0) (length front) k 0 refl le
+    ∙ get_or-replicate n (k - length front) 0 0 (omega arith)))
 
 longer : (front zeros image rest : List ℕ) → 2 < length front → 2 < length (front ++ zeros ++ image ++ rest)
 longer front zeros image rest lt =
@@ -65,14 +131,35 @@ longer front zeros image rest lt =
 abbrev padding : Bounds → List ℕ
 padding lim = replicate (first_program_word lim - control_words) 0
 
--- at the start
-pub agrees_first : (lim : Bounds) (image : List ℕ) → Agrees lim (first_words lim image) (first_state lim image)
+-- behind the control words and before the program words there are zeros
+zero_word : (lim : Bounds) (image : List ℕ) (k : ℕ) → control_words ≤ k → k < first_program_word lim
+    → slice_index (first_words lim image) k ≡ 0
 unfolding first_words
-agrees_first lim image = record {
-  given = refl;
-  prints = refl;
-  program = behind first_control_words (padding lim) image (replicate (program_words lim - length image) 0)
-      (first_program_word lim) (omega (arith, length-replicate {A = ℕ} (first_program_word lim - control_words) 0));
+zero_word lim image k le lt =
+    between first_control_words image (replicate (program_words lim - length image) 0)
+    (first_program_word lim - control_words) k le (omega arith)
+
+program_first : (lim : Bounds) (image : List ℕ)
+    → drop (first_program_word lim) (first_words lim image)
+    ≡ image ++ replicate (program_words lim - length image) 0
+unfolding first_words
+program_first lim image =
+    behind first_control_words (padding lim) image (replicate (program_words lim - length image) 0)
+    (first_program_word lim) (omega (arith, length-replicate {A = ℕ} (first_program_word lim - control_words) 0))
+
+first_counts : (lim : Bounds) (image : List ℕ)
+    → (slice_index (first_words lim image) 1 ≡ 1) × (slice_index (first_words lim image) 2 ≡ 0)
+unfolding first_words
+first_counts lim image = (refl, refl)
+
+pub agrees_first : (program : Program) (lim : Bounds)
+    → Agrees lim (first_words lim program.image) (first_state program lim)
+agrees_first program lim = record {
+  given = (first_counts lim program.image).0;
+  prints = (first_counts lim program.image).1;
+  pages = λ page lt. zero_word lim program.image (first_page_word + page) (omega arith) (omega arith);
+  blocks = λ place lt. zero_word lim program.image (first_block_word lim + place) (omega arith) (omega arith);
+  program = program_first lim program.image;
 }
 
 pub roomy_first : (lim : Bounds) (image : List ℕ) → 2 < length (first_words lim image)

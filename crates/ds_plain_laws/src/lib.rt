@@ -16,14 +16,14 @@ pub fn one_step_more()
     ensures { OneStepMore }
 {}
 
-/// A history that stands when main has ended, with each thread's stop as it stands there, is a record whose
-/// order is legal.
+/// Traces that stand are a record, with each thread's stop as the thread stands there, and the order in which they
+/// stand is legal.
 pub fn standing_is_recorded()
     ensures { StandingIsRecorded }
 {}
 
-/// Where the traces follow the step table, every legal order of their steps is, without log steps, a
-/// run of the plain machine, which the words agree with at every moment.
+/// Where the traces follow the step table, every legal order of their steps is, without log steps, a run of the plain
+/// machine, which the words agree with at every moment, and which ends as the record says.
 pub fn legal_runs_are_plain()
     ensures { LegalRunsArePlain }
 {}
