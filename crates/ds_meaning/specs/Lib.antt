@@ -1,0 +1,10 @@
+pub mod Values
+pub mod Callees
+pub mod Frames
+pub mod Places
+pub mod Steps
+pub mod Memory
+pub mod Control
+pub mod Calls
+pub mod Meaning
+pub mod Program

@@ -1,0 +1,9 @@
+pub mod Example
+pub mod Arithmetic
+pub mod Accesses
+pub mod Addresses
+pub mod Branches
+pub mod Calls
+pub mod Externals
+pub mod Programs
+pub mod Traps
