@@ -1,0 +1,13 @@
+pub mod Programs
+pub mod Threads
+pub mod Words
+pub mod Mallocs
+pub mod Notes
+pub mod Frees
+pub mod Schedules
+pub mod Rounds
+pub mod Totals
+pub mod Modules
+pub mod Worked
+pub mod Threaded
+pub mod Loops
