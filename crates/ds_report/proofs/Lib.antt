@@ -1,2 +1,2 @@
 mod Pieces
-mod Lines
+mod Numbered

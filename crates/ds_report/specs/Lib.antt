@@ -1,4 +1,9 @@
 pub mod Function
 pub mod Fault
+pub mod Text
+pub mod Lines
 pub mod Prints
+pub mod Trace
+pub mod Stop
+pub mod Counts
 pub mod Report

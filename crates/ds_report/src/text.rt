@@ -2,7 +2,7 @@
 
 ghost use Rattle.std.specs.Prelude.{◌≡◌, ◌++◌, option_copied, slice_get, OnOk};
 ghost use Rattle.ds_report.specs.Function.{function_text};
-ghost use Rattle.ds_report.specs.Report.{address_text};
+ghost use Rattle.ds_report.specs.Text.{signed_text, hex_text};
 
 use ds_ast::Name;
 use ds_print::push_global;
@@ -24,13 +24,45 @@ pub fn push_number<I: Integer>(text: &mut Vec<u8>, number: I) -> Result<(), Allo
     text.extend_from_slice(buffer.format(number).as_bytes())
 }
 
-/// Adds an address to a text: `0x` and lower-case hexadecimal digits without leading zeros.
-pub fn push_address(alloc: Global, text: &mut Vec<u8>, address: u64) -> Result<(), AllocError>
-    ensures { OnOk result (text.new.items ≡ text.old.items ++ address_text address) }
+/// Adds 64 bits to a text, as the signed decimal number that they are.
+pub fn push_signed(text: &mut Vec<u8>, value: u64) -> Result<(), AllocError>
+    ensures { OnOk result (text.new.items ≡ text.old.items ++ signed_text value) }
 {
-    let digits = format!(in alloc; "{address:x}")?;
+    push_number(text, value.cast_signed())
+}
+
+/// Adds an address or a word to a text: `0x` and lower-case hexadecimal digits without leading zeros.
+pub fn push_hex(alloc: Global, text: &mut Vec<u8>, value: u64) -> Result<(), AllocError>
+    ensures { OnOk result (text.new.items ≡ text.old.items ++ hex_text value) }
+{
+    let digits = format!(in alloc; "{value:x}")?;
     push(text, b"0x")?;
     push(text, digits.as_bytes())
+}
+
+/// Adds a piece and a number in decimal to a text.
+pub fn push_counted<I: Integer>(
+    text: &mut Vec<u8>,
+    piece: &[u8],
+    number: I,
+) -> Result<(), AllocError>
+    ensures { OnOk result (text.new.items ≡ text.old.items ++ (piece.now ++ I.text number)) }
+{
+    push(text, piece)?;
+    push_number(text, number)
+}
+
+/// Adds a piece and an address or a word to a text.
+pub fn push_word(
+    alloc: Global,
+    text: &mut Vec<u8>,
+    piece: &[u8],
+    value: u64,
+) -> Result<(), AllocError>
+    ensures { OnOk result (text.new.items ≡ text.old.items ++ (piece.now ++ hex_text value)) }
+{
+    push(text, piece)?;
+    push_hex(alloc, text, value)
 }
 
 /// The name at a place of a list.
