@@ -10,7 +10,12 @@ use Rattle.ds_print.specs.Canonical.{canon}
 use Rattle.ds_report.specs.declared.fault.Fault.{Fault}
 use Rattle.ds_report.specs.declared.fault.Fault.TheVariants.{Usage, Read, TooLong, Parse, Shape, Check, OtherForm}
 use Rattle.ds_report.specs.Fault.{fault_text}
-use Rattle.ds_report.specs.Report.{IsReport, is_trap}
+use Rattle.ds_map.specs.Bounds.{default_limits}
+use Rattle.ds_plain.specs.Explained.{is_fuel, stop_in}
+use Rattle.ds_plain.specs.Small.{program_of}
+use Rattle.ds_report.specs.Report.{IsReport}
+use Rattle.ds_report.specs.Stop.{is_trap}
+use Rattle.ds_report_laws.specs.Laws.{ReportsOfRuns}
 use Rattle.ds_main.specs.declared.job.Job.{Job}
 use Rattle.ds_main.specs.declared.job.Job.TheVariants as jobs
 use Rattle.ds_main.specs.Job.{IsJob, HasJob, NoJob, IsReplay}
@@ -18,7 +23,8 @@ use Rattle.ds_main.specs.Input.{IsAccepted, IsModuleOfInput, SpellsAccepted, Hel
 use Rattle.ds_main.specs.Refusal.{IsRefused, AcceptedInputsAreNotRefused}
 use Rattle.ds_main.specs.Text.{IsTextOf, accepted_text}
 use Rattle.ds_main.specs.Run.{IsEmpty, IsRunOfInput}
-use Rattle.ds_main.specs.Status.{run_status, IsRunStatus, status_of, IsFaultStatus, IsCutShort, IsStatus}
+use Rattle.ds_main.specs.Replayed.{IsReportOfEachOrder}
+use Rattle.ds_main.specs.Status.{is_full, run_status, IsRunStatus, status_of, IsFaultStatus, IsCutShort, IsStatus}
 use Rattle.ds_main.specs.Due.{IsDue, IsDueText, IsOfModule}
 use Rattle.ds_main.specs.Ending.{ReadRose, WriteRose, IsReadOut, Writing, Call, Delivers, Refused, Reported, Answered}
 use Rattle.ds_main.specs.Ending.{Ends}
@@ -92,22 +98,39 @@ not_fault status (inr (inl a)) =
 not_fault status (inr (inr a)) =
     ((λ e. absurd (omega arith)), (λ e. absurd (omega arith)), (λ e. absurd (omega arith)))
 
+-- a status of a run is none that is none of the five
+differs : (k status : ℕ) → (k ≡ 0 → ⊥) → (k ≡ 3 → ⊥) → (k ≡ 7 → ⊥) → (k ≡ 8 → ⊥) → (k ≡ 9 → ⊥) → IsRunStatus status
+    → status ≡ k → ⊥
+differs k status a b c d f (inl x) e = a (sym e ∙ x)
+differs k status a b c d f (inr (inl x)) e = b (sym e ∙ x)
+differs k status a b c d f (inr (inr (inl x))) e = c (sym e ∙ x)
+differs k status a b c d f (inr (inr (inr (inl x)))) e = d (sym e ∙ x)
+differs k status a b c d f (inr (inr (inr (inr x)))) e = f (sym e ∙ x)
+
 not_run : (status : ℕ) → IsRunStatus status → (status ≡ 5 → ⊥) × (status ≡ 6 → ⊥)
-not_run status (inl a) = ((λ e. absurd (omega arith)), (λ e. absurd (omega arith)))
-not_run status (inr a) = ((λ e. absurd (omega arith)), (λ e. absurd (omega arith)))
+not_run status is = (
+  differs 5 status (λ e. cc) (λ e. cc) (λ e. cc) (λ e. cc) (λ e. cc) is,
+  differs 6 status (λ e. cc) (λ e. cc) (λ e. cc) (λ e. cc) (λ e. cc) is,
+)
 
 run_or_fault : (status : ℕ) → IsRunStatus status → IsFaultStatus status → ⊥
-run_or_fault status run (inl a) = elim run [ inl b ↦ absurd (omega arith) | inr b ↦ absurd (omega arith) ]
-run_or_fault status run (inr (inl a)) = elim run [ inl b ↦ absurd (omega arith) | inr b ↦ absurd (omega arith) ]
-run_or_fault status run (inr (inr a)) = elim run [ inl b ↦ absurd (omega arith) | inr b ↦ absurd (omega arith) ]
+run_or_fault status run (inl a) = differs 1 status (λ e. cc) (λ e. cc) (λ e. cc) (λ e. cc) (λ e. cc) run a
+run_or_fault status run (inr (inl a)) = differs 2 status (λ e. cc) (λ e. cc) (λ e. cc) (λ e. cc) (λ e. cc) run a
+run_or_fault status run (inr (inr a)) = differs 4 status (λ e. cc) (λ e. cc) (λ e. cc) (λ e. cc) (λ e. cc) run a
 
 -- the status of a run is one of these
-status_of_if : (b : Bool) → IsRunStatus (if b then 3 else 0)
-status_of_if true = inr refl
-status_of_if false = inl refl
+status_of_ifs : (a b c d : Bool)
+    → IsRunStatus (if a then 9 else (if b then 7 else (if c then 3 else (if d then 8 else 0))))
+status_of_ifs true b c d = inr (inr (inr (inr refl)))
+status_of_ifs false true c d = inr (inr (inl refl))
+status_of_ifs false false true d = inr (inl refl)
+status_of_ifs false false false true = inr (inr (inr (inl refl)))
+status_of_ifs false false false false = inl refl
 
 run_status_in : (call : Call) → IsRunStatus (run_status call.ended.run.stops)
-run_status_in call = status_of_if (list_any is_trap call.ended.run.stops)
+run_status_in call =
+    let stops = call.ended.run.stops in
+    status_of_ifs (is_fuel (stop_in stops 0)) (list_any is_full stops) (list_any is_trap stops) (list_any is_fuel stops)
 
 -- with a status of a run the job was done
 by_done : (call : Call) (P : Type 0) → IsRunStatus call.ended.status
@@ -129,11 +152,21 @@ pub ran : (call : Call) → Ends call → IsJob call.words jobs.Replay → IsRun
     → (m : Module) × IsRunOfInput call.source.left m call.ended.run
 ran call ends job is = by_done call _ is (λ x w. (x.input_module, x.run)) (λ x w. absurd (no_text call job x)) ends
 
-pub reported : (call : Call) → Ends call → IsJob call.words jobs.Replay → IsRunStatus call.ended.status
-    → (m : Module) × IsRunOfInput call.source.left m call.ended.run × (text : List ℕ)
-    × IsReport (function_names m) call.ended.run.stops call.ended.run.traces text
+-- the report of a run is that of the plain machine's
+told_plainly : ReportsOfRuns → (call : Call) → (x : Reported call)
+    → IsReportOfEachOrder (function_names x.input_module) x.run.as_small call.ended.run x.text
+told_plainly law call x =
+    (law (function_names x.input_module) false (program_of x.run.as_small) default_limits call.ended.run.stops
+    call.ended.run.traces x.text x.run.run_of.sixteen_stops x.run.run_of.explained x.report).1
+
+pub reported : (call : Call) → ReportsOfRuns → Ends call → IsJob call.words jobs.Replay
+    → IsRunStatus call.ended.status
+    → (m : Module) × (run : IsRunOfInput call.source.left m call.ended.run) × (text : List ℕ)
+    × IsReport (function_names m) call.ended.run.stops call.ended.run.traces false text
+    × IsReportOfEachOrder (function_names m) run.as_small call.ended.run text
     × Takes call.sink.taken text call.sink.taken_after
-reported call ends job is = by_done call _ is (λ x w. (x.input_module, x.run, x.text, x.report, w.1))
+reported call law ends job is =
+    by_done call _ is (λ x w. (x.input_module, x.run, x.text, x.report, told_plainly law call x, w.1))
     (λ x w. absurd (no_text call job x)) ends
 
 pub run_status_is : (call : Call) → Ends call → IsJob call.words jobs.Replay → IsRunStatus call.ended.status
@@ -169,9 +202,9 @@ instrumented call ends is zero =
     by_text call jobs.Instrument canon (λ m bytes e. e)
     (answered call ends jobs.Instrument (λ e. absurd (cc e)) is zero)
 
-pub trap_status : (call : Call) → Ends call → call.ended.status ≡ 3 → IsJob call.words jobs.Replay
-trap_status call ends three =
-    by_done call _ (inr three) (λ x w. x.job) (λ x w. absurd (omega (arith, w.0, three))) ends
+pub of_replay : (call : Call) → Ends call → IsRunStatus call.ended.status → ¬ (call.ended.status ≡ 0)
+    → IsJob call.words jobs.Replay
+of_replay call ends is other = by_done call _ is (λ x w. x.job) (λ x w. absurd (other w.0)) ends
 
 pub read_out : (call : Call) → Ends call → IsRunStatus call.ended.status
     → call.source.left_after ≡ option_map (λ _. []) call.source.left

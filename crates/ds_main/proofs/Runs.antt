@@ -6,7 +6,8 @@ use Rattle.ds_small.specs.Module.{Module}
 use Rattle.ds_map.specs.Bounds.{Bounds, IsInRange, default_limits}
 use Rattle.ds_plain.specs.declared.Stop.{Stop}
 use Rattle.ds_plain.specs.declared.Stop.TheVariants.{Idle}
-use Rattle.ds_plain.specs.Explained.{IsRecord, IsLegalOrder, HasLegalOrder}
+use Rattle.ds_plain.specs.Behaviour.{Program}
+use Rattle.ds_plain.specs.Explained.{HasEnded, stop_in, IsRecord, IsLegalOrder, HasLegalOrder}
 use Rattle.ds_plain.specs.Small.{program_of}
 use Rattle.ds_plain_laws.specs.Laws.{LegalRunsArePlain}
 use Rattle.ds_core.specs.declared.record.RunRecord.{RunRecord}
@@ -14,10 +15,10 @@ use Rattle.ds_main.specs.Run.{IsRunOfModule}
 use Rattle.ds_main.specs.Ending.{Writing, Delivers}
 
 -- a recorded order that is legal is some legal order
-has_legal_order : (lim : Bounds) (image : List ℕ) (traces : List (List Step)) (order : Option (List ℕ))
-    → IsSomeAnd order (IsLegalOrder lim image traces) → HasLegalOrder lim image traces
-has_legal_order lim image traces None legal = absurd legal
-has_legal_order lim image traces (Some order) legal = ∣ (legal.0, legal.2, legal.3) ∣₁
+has_legal_order : (program : Program) (lim : Bounds) (traces : List (List Step)) (order : Option (List ℕ))
+    → IsSomeAnd order (IsLegalOrder program lim traces) → HasLegalOrder program lim traces
+has_legal_order program lim traces None legal = absurd legal
+has_legal_order program lim traces (Some order) legal = ∣ (legal.0, legal.2, legal.3) ∣₁
 
 default_in_range : IsInRange default_limits
 default_in_range = record {
@@ -35,14 +36,18 @@ idle_behind stops stop are = ap (λ (s : List Stop). drop 1 s) are
 
 pub run_of_module : LegalRunsArePlain → (small : Module) (run : RunRecord)
     → IsRecord (program_of small) default_limits run.stops run.traces
-    → IsSomeAnd run.order (IsLegalOrder default_limits small.globals run.traces)
+    → IsSomeAnd run.order (IsLegalOrder (program_of small) default_limits run.traces)
     → IsSomeAnd run.order (λ order. order ≡ replicate (length order) 0)
-    → (main : Stop) → run.stops ≡ main ∷ replicate 15 Idle → IsRunOfModule small run
-run_of_module law small run recorded legal alone main stops = record {
-  sixteen_stops = recorded.sixteen_stops;
-  sixteen_traces = recorded.sixteen_traces;
-  explained = law (program_of small) default_limits small.globals run.stops run.traces default_in_range recorded
-      (has_legal_order default_limits small.globals run.traces run.order legal);
+    → (main : Stop) → run.stops ≡ main ∷ replicate 15 Idle → length run.stops ≡ 16 → HasEnded (stop_in run.stops 0)
+    → IsRunOfModule small run
+run_of_module law small run recorded legal alone main stops sixteen ended = record {
+  sixteen_stops = sixteen;
+  main_ended = ended;
+  explained = record {
+    recorded = recorded;
+    some_order = has_legal_order (program_of small) default_limits run.traces run.order legal;
+    every_order = law (program_of small) default_limits run.stops run.traces default_in_range recorded;
+  };
   order = legal;
   main_alone = alone;
   others_idle = idle_behind run.stops main stops;

@@ -1,5 +1,5 @@
 -- What a call has to tell.
-use Rattle.std.specs.Prelude.{◌≡◌, ℕ, ◌⊎◌, List, Option}
+use Rattle.std.specs.Prelude.{◌≡◌, ℕ, ◌⊎◌, List, Option, false}
 use Rattle.ds_ast.specs.declared.module.Module.{Module}
 use Rattle.ds_lex.specs.declared.fault.LexFault.TheVariants as lex
 use Rattle.ds_grammar.specs.declared.fault.ParseFault.TheVariants as parse
@@ -73,5 +73,5 @@ abbrev pub IsDueText : List (List ℕ) → Option (List ℕ) → (read_rose : Ty
 IsDueText words left read_rose run text =
     ((fault : Fault) × IsDue words left read_rose fault × IsEmpty run × (text ≡ fault_text fault))
     ⊎ ((IsJob words Replay × (m : Module) × IsRunOfInput left m run
-    × IsReport (function_names m) run.stops run.traces text)
+    × IsReport (function_names m) run.stops run.traces false text)
     ⊎ ((job : Job) × IsJob words job × (m : Module) × IsModuleOfInput left m × IsEmpty run × IsTextOf job m text))

@@ -1,5 +1,5 @@
 -- Helpers: how the private functions of a call end. No clause of a public call speaks of them.
-use Rattle.std.specs.Prelude.{◌≡◌, ℕ, ◌⊎◌, List, [], Option, Some, None}
+use Rattle.std.specs.Prelude.{◌≡◌, ℕ, ◌⊎◌, List, [], Option, Some, None, false}
 use Rattle.std.specs.Option.{option_map}
 use Rattle.ds_ast.specs.declared.module.Module.{Module}
 use Rattle.ds_small.specs.Module as small
@@ -95,7 +95,7 @@ pub record Reported (call : Call) : Type 0 where
   pub run : IsRunOfInput call.source.left input_module call.ended.run
   pub read : IsReadOut call.source
   pub text : List ℕ
-  pub report : IsReport (function_names input_module) call.ended.run.stops call.ended.run.traces text
+  pub report : IsReport (function_names input_module) call.ended.run.stops call.ended.run.traces false text
   pub told : Delivers text (run_status call.ended.run.stops) call.sink call.ended.status
 
 -- nothing was run, and the text that a job has of the accepted module that the input spells was delivered
@@ -144,7 +144,7 @@ abbrev pub RunEnds : Module → small.Module → Writing → Ended → Type 0
 RunEnds m s sink ended =
     MemoryEnds sink ended
     ⊎ (IsRunOfModule s ended.run × (Unwritten sink ended.status
-    ⊎ ((text : List ℕ) × IsReport (function_names m) ended.run.stops ended.run.traces text
+    ⊎ ((text : List ℕ) × IsReport (function_names m) ended.run.stops ended.run.traces false text
     × Delivers text (run_status ended.run.stops) sink ended.status)))
 
 -- how the job `replay` ends once it has its module: the module has another form, memory ran out, or the module was run

@@ -2,6 +2,7 @@ pub mod Job
 pub mod Input
 pub mod Text
 pub mod Run
+pub mod Replayed
 pub mod Status
 pub mod Refusal
 pub mod Due

@@ -1,18 +1,34 @@
 -- The statuses of a call.
-use Rattle.std.specs.Prelude.{◌≡◌, ℕ, ◌⊎◌, List, if◌then◌else◌}
+use Rattle.std.specs.Prelude.{◌≡◌, ℕ, ◌⊎◌, Bool, true, false, List, if◌then◌else◌}
 use Rattle.std.specs.List.{list_any}
 use Rattle.ds_plain.specs.declared.Stop.{Stop}
+use Rattle.ds_plain.specs.declared.Stop.TheVariants.{Idle, Running, Returned, Trap, Full, Fuel}
+use Rattle.ds_plain.specs.Explained.{is_fuel, stop_in}
 use Rattle.ds_report.specs.declared.fault.Fault.{Fault}
 use Rattle.ds_report.specs.declared.fault.Fault.TheVariants.{Usage, Read, TooLong, Parse, Shape, Check, OtherForm}
-use Rattle.ds_report.specs.Report.{is_trap}
+use Rattle.ds_report.specs.Stop.{is_trap}
 
--- the status of a run that was reported: 3 where a thread trapped, and else 0
+-- the thread met a full table
+abbrev pub is_full : Stop → Bool
+is_full Idle = false
+is_full Running = false
+is_full (Returned value) = false
+is_full (Trap trap) = false
+is_full (Full place what) = true
+is_full Fuel = false
+
+-- The status of a run that was reported, the first that holds: 9 where main ran out of fuel, 7 where a thread met a
+-- full table, 3 where one trapped, 8 where another thread than main ran out of fuel, and else 0.
 abbrev pub run_status : List Stop → ℕ
-run_status stops = if list_any is_trap stops then 3 else 0
+run_status stops =
+    if is_fuel (stop_in stops 0) then 9 else
+    (if list_any is_full stops then 7 else
+    (if list_any is_trap stops then 3 else
+    (if list_any is_fuel stops then 8 else 0)))
 
 -- the statuses of runs that were reported
 abbrev pub IsRunStatus : ℕ → Type 0
-IsRunStatus status = (status ≡ 0) ⊎ (status ≡ 3)
+IsRunStatus status = (status ≡ 0) ⊎ (status ≡ 3) ⊎ (status ≡ 7) ⊎ (status ≡ 8) ⊎ (status ≡ 9)
 
 -- the status of a fault
 abbrev pub status_of : Fault → ℕ

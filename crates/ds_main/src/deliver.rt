@@ -7,9 +7,6 @@ use ds_io::{Failed, Sink, write_all};
 /// The status where all that was asked for was done.
 pub const DONE: u8 = 0;
 
-/// The status where a thread trapped.
-pub const TRAPPED: u8 = 3;
-
 /// The status where the sink failed.
 pub const WRITE_FAILED: u8 = 5;
 

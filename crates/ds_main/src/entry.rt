@@ -1,6 +1,6 @@
 //! The top call.
 
-ghost use Rattle.std.specs.Prelude.{◌≡◌, ◌⊎◌, ℕ, List, [], Some};
+ghost use Rattle.std.specs.Prelude.{◌≡◌, ◌⊎◌, ℕ, false, List, [], Some};
 ghost use Rattle.std.specs.Option.{option_map};
 ghost use Rattle.ds_ast.specs.declared.module.Module.{Module};
 ghost use Rattle.ds_io.specs.Counts.{Rose};
@@ -15,6 +15,7 @@ ghost use Rattle.ds_main.specs.Input.{Held, IsAccepted, IsModuleOfInput, functio
 ghost use Rattle.ds_main.specs.Refusal.{IsRefused};
 ghost use Rattle.ds_main.specs.Text.{accepted_text};
 ghost use Rattle.ds_main.specs.Run.{IsEmpty, IsRunOfInput};
+ghost use Rattle.ds_main.specs.Replayed.{IsReportOfEachOrder};
 ghost use Rattle.ds_main.specs.Status.{run_status, IsRunStatus, status_of, IsFaultStatus, IsCutShort, IsStatus};
 ghost use Rattle.ds_main.specs.Due.{IsDue, IsOfModule, IsDueText};
 ghost use Rattle.ds_main.specs.Ending.{reading, writing, Call, Ends};
@@ -29,6 +30,7 @@ use crate::replay::replay;
 use ds_core::Ended;
 use ds_io::{Sink, Source};
 use ds_report::Fault;
+use ds_report_laws::reports_of_runs;
 use std::alloc::Global;
 use std::thread::Threads;
 
@@ -63,10 +65,11 @@ fn answer<S: Source, K: Sink>(
 /// `instrument` writes the canonical text of the module. `replay` runs it, where it has the form that this stage runs,
 /// and writes the report of the run. No thread is started, and no pace is called.
 ///
-/// The status is 0 where the job was done, 3 where it was and a thread trapped, 2 where no job has these words, 4
-/// where the source failed, 1 where the source held too many bytes or no accepted module for the job, 5 where the sink
-/// failed, and 6 where memory ran out. With 1, 2 and 4 the line of the fault was written, and nothing was run. With 5
-/// the sink has taken a front of what was due, and with 6 nothing.
+/// The status is 0 where the job was done; 9, 7, 3 or 8 where it was and main ran out of fuel, a thread met a full
+/// table, a thread trapped, or another thread ran out of fuel, of which the first decides; 2 where no job has these
+/// words, 4 where the source failed, 1 where the source held too many bytes or no accepted module for the job, 5 where
+/// the sink failed, and 6 where memory ran out. With 1, 2 and 4 the line of the fault was written, and nothing was run.
+/// With 5 the sink has taken a front of what was due, and with 6 nothing.
 pub fn dangsan_main<R: Threads + Sync, S: Source, K: Sink, P: Pace>(
     rt: &R,
     alloc: Global,
@@ -81,26 +84,28 @@ pub fn dangsan_main<R: Threads + Sync, S: Source, K: Sink, P: Pace>(
     // idle.
     ensures headline { IsEmpty result.run
         ⊎ (IsJob (texts words.now) Job.Replay × (m : Module) × IsRunOfInput (S.left source.old) m result.run) }
-    // With status 0 and 3 of `replay` there is a run, the sink took its whole report, by the names of the functions of
-    // the module that the input spells, and the status is 3 exactly where a thread trapped.
+    // With status 0, 3, 7, 8 and 9 of `replay` there is a run, the sink took its whole report, by the names of the
+    // functions of the module that the input spells, and the status is the one that the stops give. The report is that
+    // of the plain machine's run, in whichever legal order of the recorded steps.
     ensures ran { IsJob (texts words.now) Job.Replay → IsRunStatus result.status
         → (m : Module) × IsRunOfInput (S.left source.old) m result.run }
     ensures reported { IsJob (texts words.now) Job.Replay → IsRunStatus result.status
-        → (m : Module) × IsRunOfInput (S.left source.old) m result.run
-        × (text : List ℕ) × IsReport (function_names m) result.run.stops result.run.traces text
+        → (m : Module) × (run : IsRunOfInput (S.left source.old) m result.run)
+        × (text : List ℕ) × IsReport (function_names m) result.run.stops result.run.traces false text
+        × IsReportOfEachOrder (function_names m) run.as_small result.run text
         × Takes (K.taken sink.old) text (K.taken sink.new) }
     ensures run_status { IsJob (texts words.now) Job.Replay → IsRunStatus result.status
         → result.status ≡ run_status result.run.stops }
     // With status 0 of `check` and `instrument` the input spells an accepted module, and the sink took the whole text
-    // due. 3 is of `replay` alone.
+    // due. 3, 7, 8 and 9 are of `replay` alone.
     ensures checked { IsJob (texts words.now) Job.Check → result.status ≡ 0
         → (m : Module) × IsModuleOfInput (S.left source.old) m
         × Takes (K.taken sink.old) (accepted_text m) (K.taken sink.new) }
     ensures instrumented { IsJob (texts words.now) Job.Instrument → result.status ≡ 0
         → (m : Module) × IsModuleOfInput (S.left source.old) m
         × Takes (K.taken sink.old) (canon m) (K.taken sink.new) }
-    ensures trap_status { result.status ≡ 3 → IsJob (texts words.now) Job.Replay }
-    // With 0 and 3 the source was read to its end.
+    ensures of_replay { IsRunStatus result.status → ¬ (result.status ≡ 0) → IsJob (texts words.now) Job.Replay }
+    // With 0, 3, 7, 8 and 9 the source was read to its end.
     ensures read_out { IsRunStatus result.status → S.left source.new ≡ option_map (λ _. []) (S.left source.old) }
     // 2: exactly where no job has these words. 4: only where the source failed.
     ensures usage { result.status ≡ 2 → NoJob (texts words.now) }
@@ -141,5 +146,6 @@ pub fn dangsan_main<R: Threads + Sync, S: Source, K: Sink, P: Pace>(
         IsRunStatus result.status ⊎ (result.status ≡ 6)) }
 {
     accepted_inputs_are_not_refused();
+    reports_of_runs();
     answer(alloc, words, source, sink)
 }

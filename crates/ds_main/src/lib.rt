@@ -16,6 +16,7 @@ mod pace;
 mod refuse;
 mod replay;
 mod run;
+mod status;
 #[cfg(test)]
 mod tests;
 

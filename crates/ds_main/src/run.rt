@@ -1,45 +1,32 @@
 //! Runs a module and reports the run.
 
-ghost use Rattle.std.specs.Prelude.{◌≡◌, length, IfOk};
+ghost use Rattle.std.specs.Prelude.{◌≡◌, false, length, IfOk};
 ghost use Rattle.ds_small.specs.Module.{IsWellFormed};
 ghost use Rattle.ds_plain.specs.Explained.{HasEnded, stop_in};
 ghost use Rattle.ds_report.specs.Report.{IsReport};
 ghost use Rattle.ds_main.specs.Input.{function_names};
-ghost use Rattle.ds_main.specs.Status.{run_status};
 ghost use Rattle.ds_main.specs.Ending.{writing, RunEnds};
 
 use crate::accept::names_of;
-use crate::deliver::{DONE, OUT_OF_MEMORY, TRAPPED, deliver};
+use crate::deliver::{OUT_OF_MEMORY, deliver};
 use crate::refuse::out_of_memory;
+use crate::status::status_by;
 use ds_ast::Module;
 use ds_core::{Ended, RunRecord, replay_small};
 use ds_io::Sink;
-use ds_plain::Stop;
 use ds_plain_laws::legal_runs_are_plain;
 use ds_report::render;
 use ds_small::Small;
 use std::alloc::{AllocError, Global};
 
-/// The status of a run that was reported, by how its threads stood.
-fn status_by(stops: &[Stop]) -> u8
-    ensures { result ≡ run_status stops.now }
-{
-    for stop in stops {
-        if let Stop::Trap(_) = stop {
-            return TRAPPED;
-        }
-    }
-    DONE
-}
-
 /// The report of a run of a module.
 fn report_of(alloc: Global, module: &Module, run: &RunRecord) -> Result<Vec<u8>, AllocError>
     requires stops { length run.now.stops ≡ 16 }
     requires ended { HasEnded (stop_in run.now.stops 0) }
-    ensures { IfOk result (λ text. IsReport (function_names «module».now) run.now.stops run.now.traces text.items) }
+    ensures { IfOk result (λ text. IsReport (function_names «module».now) run.now.stops run.now.traces false text.items) }
 {
     let names = names_of(alloc, module)?;
-    render(alloc, names.as_slice(), run)
+    render(alloc, names.as_slice(), run, false)
 }
 
 /// Runs a module, as the small one that it is, and writes the report of the run.

@@ -9,7 +9,7 @@ pub returns-clause-ran : goal.returns-clause-ran
 returns-clause-ran g c = clauses.ran _ c.answer.ensures
 
 pub returns-clause-reported : goal.returns-clause-reported
-returns-clause-reported g c = clauses.reported _ c.answer.ensures
+returns-clause-reported g c = clauses.reported _ c.reports_of_runs.ensures c.answer.ensures
 
 pub returns-clause-read_out : goal.returns-clause-read_out
 returns-clause-read_out g c = clauses.read_out _ c.answer.ensures
@@ -60,5 +60,5 @@ returns-clause-instrumented g c = clauses.instrumented _ c.answer.ensures
 pub returns-clause-checked : goal.returns-clause-checked
 returns-clause-checked g c = clauses.checked _ c.answer.ensures
 
-pub returns-clause-trap_status : goal.returns-clause-trap_status
-returns-clause-trap_status g c = clauses.trap_status _ c.answer.ensures
+pub returns-clause-of_replay : goal.returns-clause-of_replay
+returns-clause-of_replay g c = clauses.of_replay _ c.answer.ensures
