@@ -1,0 +1,12 @@
+pub mod Simulated
+pub mod Named
+pub mod Held
+pub mod Copied
+pub mod Found
+pub mod Celled
+pub mod Edges
+pub mod Related
+pub mod Acts
+pub mod Steps
+pub mod Begins
+pub mod Composed
