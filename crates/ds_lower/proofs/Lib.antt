@@ -1,0 +1,7 @@
+mod Arms
+mod Blocks
+mod Cellnames
+mod Longest
+mod Notes
+mod Typed
+mod Ways

@@ -1,0 +1,5 @@
+mod Addresses
+mod Beside
+mod Externals
+mod Imaged
+mod Sizes
