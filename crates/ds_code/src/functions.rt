@@ -56,7 +56,7 @@ impl Model for Code {
 }
 
 impl Code {
-    /// Code of these parts, whose row is as long as the longest list of values that are copied together.
+    /// Code of these parts, whose row is at least as long as each list of values that are copied together.
     pub fn new(parts: CodeParts) -> Code
         requires { HasRow parts }
         ensures { result ≡ parts }

@@ -11,8 +11,6 @@ mod memory;
 mod moved;
 mod run;
 mod step;
-#[cfg(test)]
-mod tests;
 mod thread;
 
 pub use moved::Want;

@@ -40,20 +40,19 @@ offset_inside f g offsets n is begin lt =
     omega arith
 
 -- the phis of a block of a function
-rows_there : {A : Type 0} (g : A → List Instr) (rows : List A) (bs : List Block) (n : ℕ) (r : A)
-    → map g rows ≡ map (λ (b : Block). front b.code) bs → n < length bs → r ≡ get_or rows n r
-    → IfSome (slice_get bs n) (λ b. g r ≡ front b.code)
-rows_there g rows [] n r e lt is = tt
-rows_there g [] (b ∷ bs) n r e lt is = absurd (cc)
-rows_there g (x ∷ rows) (b ∷ bs) zero r e lt is = let first : g x ≡ front b.code = cc in ap g is ∙ first
-rows_there g (x ∷ rows) (b ∷ bs) (suc n) r e lt is =
-    let rest : map g rows ≡ map (λ (c : Block). front c.code) bs = cc in
-    rows_there g rows bs n r rest (omega arith) is
+rows_there : (rows : List (List Instr)) (bs : List Block) (n : ℕ) (r : List Instr)
+    → rows ≡ map (λ (b : Block). front b.code) bs → n < length bs → r ≡ get_or rows n r
+    → IfSome (slice_get bs n) (λ b. r ≡ front b.code)
+rows_there rows [] n r e lt is = tt
+rows_there [] (b ∷ bs) n r e lt is = absurd (cc)
+rows_there (x ∷ rows) (b ∷ bs) zero r e lt is = let first : x ≡ front b.code = cc in is ∙ first
+rows_there (x ∷ rows) (b ∷ bs) (suc n) r e lt is =
+    let rest : rows ≡ map (λ (c : Block). front c.code) bs = cc in
+    rows_there rows bs n r rest (omega arith) is
 
-pub phis_there : {A : Type 0} (g : A → List Instr) (rows : List A) (f h : Function) (n : ℕ) (r : A) (s : List Instr) →
-    f ≡ h
-    → map g rows ≡ map (λ (b : Block). front b.code) f.blocks → n < length h.blocks → r ≡ get_or rows n r → s ≡ g r
+pub phis_there : (rows : List (List Instr)) (f h : Function) (n : ℕ) (r s : List Instr) → f ≡ h
+    → rows ≡ map (λ (b : Block). front b.code) f.blocks → n < length h.blocks → r ≡ get_or rows n r → s ≡ r
     → IfSome (slice_get h.blocks n) (λ b. s ≡ front b.code)
-phis_there g rows f h n r s same e lt is told =
+phis_there rows f h n r s same e lt is told =
     subst (λ (xs : List Instr). IfSome (slice_get h.blocks n) (λ b. xs ≡ front b.code)) (sym told)
-    (rows_there g rows h.blocks n r (e ∙ ap (λ (k : Function). map (λ (b : Block). front b.code) k.blocks) same) lt is)
+    (rows_there rows h.blocks n r (e ∙ ap (λ (k : Function). map (λ (b : Block). front b.code) k.blocks) same) lt is)

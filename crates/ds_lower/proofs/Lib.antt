@@ -1,6 +1,7 @@
 mod Arms
 mod Blocks
 mod Cellnames
+mod Fronts
 mod Longest
 mod Notes
 mod Typed

@@ -49,10 +49,6 @@ abbrev pub IsPhiOf : Instr → Scalar → List Arm → List Name → Type 0
 IsPhiOf i ty arms labels =
     (choice_of i.op ≡ Some (record { ty = ty; arms = arms })) × (labels ≡ labels_of arms)
 
--- the instruction, if it is a phi
-abbrev pub phi_at : Instr → Option Instr
-phi_at i = option_map (λ (choice : Choice). i) (choice_of i.op)
-
 -- the value of the arm of a number
 abbrev pub value_in : List Arm → ℕ → Option Value
 value_in arms n = option_map (λ (a : Arm). a.value) (slice_get arms n)

@@ -1,131 +1,19 @@
 //! Instructions.
-ghost use Rattle.std.specs.Prelude.{◌≡◌, ◌+◌, ◌++◌, suc, not, IfOk, OnOk, All};
+ghost use Rattle.std.specs.Prelude.{◌≡◌, ◌≤◌, ◌+◌, ◌^◌, ◌++◌, suc, not, IfOk, IsErr, OnOk, All};
 ghost use Rattle.ds_shape.specs.Fits.{Fits};
 ghost use Rattle.ds_shape.specs.Written.{types_of_op};
 ghost use Rattle.ds_meaning.specs.Callees.{callee_of, is_ds_note};
 ghost use Rattle.ds_meaning.specs.Places.{counted, is_note_call};
-ghost use Rattle.ds_code.specs.Cells.{cells_for};
 ghost use Rattle.ds_lower.specs.Notes.{is_known_note, is_note_called};
 ghost use Rattle.ds_lower.specs.Known.{AllFit};
 ghost use Rattle.ds_code.specs.Lowering as lowering;
 
-use crate::calls::call_of;
-use crate::edges::{edge_to, switch_of};
 use crate::local::Local;
-use crate::strides::gep_of;
-use crate::values::{count_of, returned_of, source_of};
+use crate::ops::lower_op;
 use ds_ast::{Instr, List, Name, Op};
-use ds_code::{BranchOp, Called, CodeInstr, CodeOp, Known, MemoryOp, ValueOp};
+use ds_code::{Called, CodeInstr, Known};
 use ds_lower_parts::{Scope, callee_of};
 use std::alloc::{AllocError, Global};
-
-/// What an instruction becomes that stands in the block of a label and whose result has this name.
-fn lower_op<'a>(
-    alloc: Global,
-    scope: &Scope<'_, 'a>,
-    local: &Local,
-    from: &Name,
-    name: &Option<Name>,
-    op: &'a Op,
-) -> Result<CodeOp, AllocError>
-    requires { All (Fits scope.now.structs) (types_of_op op.now) }
-    ensures { IfOk result (λ made. made ≡ lowering.lowered_op scope.now local.now from.now name.now op.now) }
-{
-    match op {
-        Op::Bin { op, ty, a, b } => Ok(CodeOp::Compute(ValueOp::Bin {
-            op: *op,
-            ty: *ty,
-            a: source_of(scope, local, a),
-            b: source_of(scope, local, b),
-        })),
-        Op::Icmp { cond, ty, a, b } => Ok(CodeOp::Compute(ValueOp::Icmp {
-            cond: *cond,
-            ty: *ty,
-            a: source_of(scope, local, a),
-            b: source_of(scope, local, b),
-        })),
-        Op::Select { c, ty, a, b } => Ok(CodeOp::Compute(ValueOp::Select {
-            c: source_of(scope, local, c),
-            ty: *ty,
-            a: source_of(scope, local, a),
-            b: source_of(scope, local, b),
-        })),
-        Op::Cast { op, from, a, to } => Ok(CodeOp::Compute(ValueOp::Cast {
-            op: *op,
-            from: *from,
-            a: source_of(scope, local, a),
-            to: *to,
-        })),
-        Op::Alloca { ty, count } => Ok(CodeOp::Alloca {
-            size: scope.size_of(ty),
-            count: count_of(scope, local, count),
-        }),
-        Op::Load { ty, at } => Ok(CodeOp::Memory(MemoryOp::Load {
-            ty: *ty,
-            at: source_of(scope, local, at),
-        })),
-        Op::Store { ty, value, at } => Ok(CodeOp::Memory(MemoryOp::Store {
-            ty: *ty,
-            value: source_of(scope, local, value),
-            at: source_of(scope, local, at),
-        })),
-        Op::Gep { ty, base, indices } => gep_of(alloc, scope, local, ty, base, indices.as_slice()),
-        Op::Call { callee, args, .. } => call_of(alloc, scope, local, callee, args.as_slice()),
-        Op::Phi { .. } => Ok(CodeOp::Skip),
-        Op::Rmw { op, at, ty, value } => Ok(CodeOp::Memory(MemoryOp::Rmw {
-            op: *op,
-            at: source_of(scope, local, at),
-            ty: *ty,
-            value: source_of(scope, local, value),
-        })),
-        Op::Cmpxchg {
-            at,
-            ty,
-            expected,
-            new,
-        } => Ok(CodeOp::Memory(MemoryOp::Cmpxchg {
-            at: source_of(scope, local, at),
-            ty: *ty,
-            expected: source_of(scope, local, expected),
-            new: source_of(scope, local, new),
-            exchanged: local.result_cell(name, 1),
-        })),
-        Op::Extract { of, index, .. } => Ok(CodeOp::Compute(ValueOp::Extract {
-            cell: local.cell_of(of, *index),
-        })),
-        Op::Fence => Ok(CodeOp::Skip),
-        Op::Ret(value) => Ok(CodeOp::Ret(returned_of(scope, local, value))),
-        Op::Br(label) => {
-            let edge = edge_to(alloc, scope, local, from, label)?;
-            Ok(CodeOp::Branch(BranchOp::Jump(edge)))
-        }
-        Op::CondBr { c, yes, no } => {
-            let first = edge_to(alloc, scope, local, from, yes)?;
-            let second = edge_to(alloc, scope, local, from, no)?;
-            Ok(CodeOp::Branch(BranchOp::Either {
-                c: source_of(scope, local, c),
-                yes: first,
-                no: second,
-            }))
-        }
-        Op::Switch {
-            ty,
-            value,
-            other,
-            cases,
-        } => switch_of(
-            alloc,
-            scope,
-            local,
-            from,
-            *ty,
-            value,
-            other,
-            cases.as_slice(),
-        ),
-        Op::Unreachable => Ok(CodeOp::Unreachable),
-    }
-}
 
 /// Whether an external notes a pointer.
 fn is_note(external: Known) -> bool
@@ -172,7 +60,8 @@ fn is_counted(scope: &Scope, op: &Op) -> bool
 
 /// One more. An `Err` comes only where that has more than 32 bits.
 fn next(seen: u32) -> Result<u32, AllocError>
-    ensures { IfOk result (λ more. more ≡ suc seen) }
+    ensures value { IfOk result (λ more. more ≡ suc seen) }
+    ensures large { IsErr result → 2 ^ 32 ≤ suc seen }
 {
     if seen == 4_294_967_295 {
         return Err(AllocError);

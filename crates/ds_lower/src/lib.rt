@@ -6,12 +6,10 @@ mod edges;
 mod instrs;
 mod local;
 mod lowering;
+mod ops;
 mod phis;
 mod rows;
 mod strides;
 mod values;
 
 pub use lowering::lower;
-
-#[cfg(test)]
-mod tests;

@@ -1,5 +1,6 @@
 //! What lowering knows of a function.
-ghost use Rattle.std.specs.Prelude.{◌≡◌, ◌<◌, ◌+◌, ◌++◌, length, map, flat_map, slice_get, IfOk, IfSome, OnOk};
+ghost use Rattle.std.specs.Prelude.{◌≡◌, ◌<◌, ◌≤◌, ◌+◌, ◌^◌, ◌++◌, length, map, flat_map, slice_get};
+ghost use Rattle.std.specs.Prelude.{IfOk, IfSome, IsErr, OnOk};
 ghost use Rattle.ds_ast.specs.declared.module.Block.{Block as block};
 ghost use Rattle.ds_ast.specs.declared.module.Param.{Param as param};
 ghost use Rattle.ds_names.specs.Places.{nows};
@@ -9,7 +10,7 @@ ghost use Rattle.ds_code.specs.Cells.{cells_for, cell_total, cell_of, result_cel
 ghost use Rattle.ds_code.specs.Lowering.{front, block_number};
 ghost use Rattle.ds_lower.specs.Known.{offsets_from, names_past};
 
-use crate::phis::{Phi, front_of};
+use crate::phis::{Front, Phi};
 use ds_ast::{Block, Function, Instr, Name, Op, Param};
 use ds_lower_parts::{FirstPlaces, small};
 use std::alloc::{AllocError, Global};
@@ -24,11 +25,10 @@ pub struct Local<'a> {
     seconds: FirstPlaces<'a>,
     labels: FirstPlaces<'a>,
     offsets: Vec<u32>,
-    phis: Vec<Vec<Phi<'a>>>,
+    phis: Vec<Front<'a>>,
 }
 
 impl<'a> Model for Local<'a> {
-    ghost use Rattle.std.specs.Prelude.{map};
     ghost use Rattle.ds_ast.specs.declared.module.Function.{Function};
     ghost use Rattle.ds_ast.specs.contracts.module.Function as row;
     ghost use Rattle.ds_lower.specs.Known.{InFunction};
@@ -39,8 +39,7 @@ impl<'a> Model for Local<'a> {
 
     ghost view = { λ s. s.function.now };
 
-    ghost invariant = { λ s. InFunction s.function.now s.firsts s.seconds s.labels s.offsets.items
-        (map (λ row. row.items) s.phis.items) };
+    ghost invariant = { λ s. InFunction s.function.now s.firsts s.seconds s.labels s.offsets.items s.phis.items };
 }
 
 /// How many parts the result of an instruction has.
@@ -153,7 +152,8 @@ fn labels_of<'a>(alloc: Global, blocks: &'a [Block]) -> Result<FirstPlaces<'a>, 
 
 /// The sum of two numbers. An `Err` comes only where it has more than 32 bits.
 fn behind(at: u32, count: usize) -> Result<u32, AllocError>
-    ensures { IfOk result (λ sum. sum ≡ at + count) }
+    ensures value { IfOk result (λ sum. sum ≡ at + count) }
+    ensures large { IsErr result → 2 ^ 32 ≤ at + count }
 {
     if count > 4_294_967_295 - at as usize {
         return Err(AllocError);
@@ -174,16 +174,27 @@ fn offsets_of(alloc: Global, blocks: &[Block]) -> Result<Vec<u32>, AllocError>
     Ok(offsets)
 }
 
-/// The phis at the front of each block.
-fn phis_of<'a>(alloc: Global, blocks: &'a [Block]) -> Result<Vec<Vec<Phi<'a>>>, AllocError>
-    ensures { IfOk result
-        (λ phis. map (λ row. row.items) phis.items ≡ map (λ (b : block). front b.code) blocks.now) }
+/// Adds the phis at the front of each block.
+fn push_phis<'a>(
+    alloc: Global,
+    phis: &mut Vec<Front<'a>>,
+    blocks: &'a [Block],
+) -> Result<(), AllocError>
+    ensures { OnOk result (phis.new.items ≡ phis.old.items ++ map (λ (b : block). front b.code) blocks.now) }
 {
-    let mut phis = Vec::new(alloc);
     for block in blocks {
-        let row = front_of(alloc, block.code.as_slice())?;
+        let row = Front::new(alloc, block.code.as_slice())?;
         phis.push(row)?;
     }
+    Ok(())
+}
+
+/// The phis at the front of each block.
+fn phis_of<'a>(alloc: Global, blocks: &'a [Block]) -> Result<Vec<Front<'a>>, AllocError>
+    ensures { IfOk result (λ phis. phis.items ≡ map (λ (b : block). front b.code) blocks.now) }
+{
+    let mut phis = Vec::new(alloc);
+    push_phis(alloc, &mut phis, blocks)?;
     Ok(phis)
 }
 

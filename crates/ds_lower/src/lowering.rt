@@ -202,9 +202,10 @@ fn lowered<'a>(alloc: Global, whole: &'a Module, shapes: &Shapes<'a>) -> Result<
 /// a well-formed module is its program, where it declares no function but the externals and `ds_note`; so is that of a
 /// module that is accepted.
 ///
-/// An `Err` comes only where there is not enough memory, or where there are 2^32 of anything that code numbers or
-/// counts. The work for a module of n bytes is in the order of n log n, and the stack that it takes is in the order of
-/// the brackets that are open at once in one initialiser.
+/// An `Err` stands for want of memory, as which a number or an address of code that does not fit its bits counts too.
+/// No clause says when it comes; a test shows that it does not always come. The work for an accepted module of n bytes
+/// is in the order of n log n, and for any other also in the order of the words of its globals. The stack that it takes
+/// is in the order of the brackets that are open at once in one initialiser.
 pub fn lower<'a>(alloc: Global, whole: &'a Module, shapes: &Shapes<'a>) -> Result<Code, AllocError>
     requires layout { HasLayout whole.now }
     requires same { shapes.now ≡ whole.now.structs }

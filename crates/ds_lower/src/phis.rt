@@ -1,7 +1,9 @@
 //! The phis at the front of blocks.
-ghost use Rattle.std.specs.Prelude.{◌≡◌, option_copied, IfOk};
+ghost use Rattle.std.specs.Prelude.{◌≡◌, ◌∷◌, ◌++◌, [], option_copied, IfOk, OnOk};
+ghost use Rattle.std.specs.Option.{is_some};
+ghost use Rattle.ds_meaning.specs.Control.{choice_of};
 ghost use Rattle.ds_code.specs.Lowering.{front};
-ghost use Rattle.ds_lower.specs.Known.{labels_of, phi_at, phi_arm, value_in};
+ghost use Rattle.ds_lower.specs.Known.{labels_of, phi_arm, value_in};
 
 use ds_ast::{Arm, Instr, Name, Op, Scalar, Value};
 use ds_lower_parts::FirstPlaces;
@@ -52,40 +54,6 @@ fn value_in(arms: &[Arm], number: usize) -> Option<&Value>
     }
 }
 
-/// The phi that an instruction is, if it is one.
-fn phi_of<'a>(alloc: Global, instr: &'a Instr) -> Result<Option<Phi<'a>>, AllocError>
-    ensures { IfOk result (λ found. found ≡ phi_at instr.now) }
-{
-    match &instr.op {
-        Op::Phi { ty, arms } => {
-            let arms = arms.as_slice();
-            let labels = labels_of(alloc, arms)?;
-            Ok(Some(Phi {
-                instr,
-                ty: *ty,
-                arms,
-                labels,
-            }))
-        }
-        _ => Ok(None),
-    }
-}
-
-/// The phis at the front of these instructions.
-pub fn front_of<'a>(alloc: Global, code: &'a [Instr]) -> Result<Vec<Phi<'a>>, AllocError>
-    ensures { IfOk result (λ phis. phis.items ≡ front code.now) }
-{
-    let mut made = Vec::new(alloc);
-    for n in 0..code.len() {
-        let found = phi_of(alloc, &code[n])?;
-        match found {
-            Some(phi) => made.push(phi)?,
-            None => return Ok(made),
-        }
-    }
-    Ok(made)
-}
-
 impl<'a> Phi<'a> {
     ghost use Rattle.ds_lower.specs.Known.{type_in};
 
@@ -111,5 +79,84 @@ impl<'a> Phi<'a> {
             Some(number) => value_in(self.arms, number as usize),
             None => None,
         }
+    }
+}
+
+/// Adds the phi that an instruction is, and says whether it is one.
+fn push_phi<'a>(
+    alloc: Global,
+    phis: &mut Vec<Phi<'a>>,
+    instr: &'a Instr,
+) -> Result<bool, AllocError>
+    ensures phi { OnOk result (phis.new.items ≡ phis.old.items ++ front (instr.now ∷ [])) }
+    ensures told { IfOk result (λ told. told ≡ is_some (choice_of instr.now.op)) }
+{
+    match &instr.op {
+        Op::Phi { ty, arms } => {
+            let arms = arms.as_slice();
+            let labels = labels_of(alloc, arms)?;
+            phis.push(Phi {
+                instr,
+                ty: *ty,
+                arms,
+                labels,
+            })?;
+            Ok(true)
+        }
+        _ => Ok(false),
+    }
+}
+
+/// Adds the phis at the front of these instructions.
+#[tactic(auto, using(crate::proofs::Fronts::phis_on, crate::proofs::Fronts::phis_end))]
+fn push_front<'a>(
+    alloc: Global,
+    phis: &mut Vec<Phi<'a>>,
+    code: &'a [Instr],
+) -> Result<(), AllocError>
+    ensures { OnOk result (phis.new.items ≡ phis.old.items ++ front code.now) }
+{
+    for n in 0..code.len() {
+        if !push_phi(alloc, phis, &code[n])? {
+            return Ok(());
+        }
+    }
+    Ok(())
+}
+
+/// The phis at the front of a block. Contracts see the instructions.
+#[derive(Drop)]
+pub struct Front<'a> {
+    phis: Vec<Phi<'a>>,
+}
+
+impl<'a> Model for Front<'a> {
+    ghost use Rattle.std.specs.Prelude.{List};
+    ghost use Rattle.std.specs.Coded.{coded_list};
+    ghost use Rattle.ds_ast.specs.declared.instr.Instr.{Instr};
+    ghost use Rattle.ds_ast.specs.contracts.instr.Instr as row;
+
+    ghost Value = { List Instr };
+
+    ghost coded = { coded_list row.the_row.coded };
+
+    ghost view = { λ f. f.phis.items };
+}
+
+impl<'a> Front<'a> {
+    /// The phis at the front of these instructions.
+    pub fn new(alloc: Global, code: &'a [Instr]) -> Result<Front<'a>, AllocError>
+        ensures { IfOk result (λ row. row ≡ front code.now) }
+    {
+        let mut phis = Vec::new(alloc);
+        push_front(alloc, &mut phis, code)?;
+        Ok(Front { phis })
+    }
+
+    /// The phis, one after another.
+    pub fn as_slice(&self) -> &[Phi<'a>]
+        ensures { result.now ≡ self.now }
+    {
+        self.phis.as_slice()
     }
 }

@@ -12,7 +12,7 @@ ghost use Rattle.ds_shape.specs.Sizes.{layout_of};
 ghost use Rattle.ds_meaning.specs.Values.{global_address};
 ghost use Rattle.ds_lower_parts.specs.Bytes.{address_in, fields_bytes, elements_bytes};
 
-use crate::places::small;
+use crate::places::{behind, small};
 use crate::scope::{Scope, words_for};
 use ds_ast::{GlobalDef, Init, List, Name, Ty, Value};
 use ds_shape::{elements_fit, extents_are_computed, fields_fit};
@@ -51,16 +51,6 @@ fn push_low(bytes: &mut Vec<u8>, count: u64, number: u64) -> Result<(), AllocErr
         rest = rest / 256;
     }
     Ok(())
-}
-
-/// The sum of two sizes. An `Err` comes only where it has more than 64 bits.
-fn behind(at: u64, size: u64) -> Result<u64, AllocError>
-    ensures { IfOk result (λ sum. sum ≡ at + size) }
-{
-    if at > 0xffff_ffff_ffff_ffff - size {
-        return Err(AllocError);
-    }
-    Ok(at + size)
 }
 
 /// Adds the bytes of a value of a type.

@@ -1,5 +1,5 @@
 //! What one index of an address adds.
-ghost use Rattle.std.specs.Prelude.{◌≡◌, option_copied, slice_get, IfOk};
+ghost use Rattle.std.specs.Prelude.{◌≡◌, ◌≤◌, ◌^◌, option_copied, slice_get, IfOk, IfSome, IsErr};
 ghost use Rattle.std.specs.Option.{option_map};
 ghost use Rattle.ds_ast.specs.declared.ty.Ty.{Struct};
 ghost use Rattle.ds_shape.specs.Address as address;
@@ -56,7 +56,7 @@ fn nth(types: &[Ty], number: usize) -> Option<&Ty>
     types.get(number)
 }
 
-/// An index of a struct: the number of a field. An `Err` comes only where there are 2^32 fields.
+/// An index of a struct: the number of a field. An `Err` comes only where that has more than 32 bits.
 fn field_leap<'s>(
     scope: &Scope<'_, 's>,
     name: &Name,
@@ -66,6 +66,7 @@ fn field_leap<'s>(
     ensures leap { IfOk result
         (λ leap. option_map step_as leap ≡ address.field_step scope.now.structs name.now number) }
     ensures fits { IfOk result (λ leap. NextFits scope.now.structs leap) }
+    ensures large { IsErr result → 2 ^ 32 ≤ number }
 {
     fields_fit();
     match scope.fields_of(name) {
@@ -84,7 +85,8 @@ fn field_leap<'s>(
     }
 }
 
-/// What an index into a type adds, if it leads anywhere. An `Err` comes only where there are 2^32 fields.
+/// What an index into a type adds, if it leads anywhere. An `Err` comes only where it is the number of a field that
+/// has more than 32 bits.
 pub fn leap_into<'a>(
     scope: &Scope<'_, 'a>,
     ty: &'a Ty,
@@ -94,6 +96,7 @@ pub fn leap_into<'a>(
     ensures leap { IfOk result
         (λ leap. option_map step_as leap ≡ address.step_into scope.now.structs ty.now index.now) }
     ensures fits { IfOk result (λ leap. NextFits scope.now.structs leap) }
+    ensures large { IsErr result → IfSome (address.field_number index.now.ty index.now.value) (λ n. 2 ^ 32 ≤ n) }
 {
     elements_fit();
     match ty {

@@ -1,5 +1,6 @@
 //! Names in a row, and the first place of each.
-ghost use Rattle.std.specs.Prelude.{◌≡◌, ◌<◌, ◌∷◌, ◌++◌, [], List, length, slice_get, IfOk, IfSome, OnOk};
+ghost use Rattle.std.specs.Prelude.{◌≡◌, ◌<◌, ◌≤◌, ◌+◌, ◌^◌, ◌∷◌, ◌++◌, [], List, length, slice_get};
+ghost use Rattle.std.specs.Prelude.{IfOk, IfSome, IsErr, OnOk};
 ghost use Rattle.ds_ast.specs.declared.name.Name.{Name};
 ghost use Rattle.ds_names.specs.Names.{place_of};
 ghost use Rattle.ds_names.specs.Places.{nows};
@@ -37,12 +38,24 @@ impl<'a> Model for FirstPlaces<'a> {
 
 /// A number as 32 bits. An `Err` comes only where it has more, as if there were no memory for so much.
 pub fn small(n: usize) -> Result<u32, AllocError>
-    ensures { IfOk result (λ k. k ≡ n) }
+    ensures value { IfOk result (λ k. k ≡ n) }
+    ensures large { IsErr result → 2 ^ 32 ≤ n }
 {
     if n > 4_294_967_295 {
         return Err(AllocError);
     }
     Ok(n as u32)
+}
+
+/// The sum of two numbers. An `Err` comes only where it has more than 64 bits.
+pub fn behind(at: u64, size: u64) -> Result<u64, AllocError>
+    ensures value { IfOk result (λ sum. sum ≡ at + size) }
+    ensures large { IsErr result → 2 ^ 64 ≤ at + size }
+{
+    if at > 0xffff_ffff_ffff_ffff - size {
+        return Err(AllocError);
+    }
+    Ok(at + size)
 }
 
 /// Keeps the place of a name, if it has none yet.
@@ -69,7 +82,7 @@ fn at(numbers: &[u32], place: usize) -> Option<u32>
 }
 
 impl<'a> FirstPlaces<'a> {
-    /// These names. An `Err` comes only where there is not enough memory, or where there are 2^32 names.
+    /// These names. An `Err` stands for want of memory, as which 2^32 names count too.
     pub fn new(alloc: Global, names: Vec<&'a Name>) -> Result<FirstPlaces<'a>, AllocError>
         ensures { IfOk result (λ s. s ≡ nows names.entry.items) }
     {

@@ -1,5 +1,5 @@
 //! What lowering knows of a module.
-ghost use Rattle.std.specs.Prelude.{◌≡◌, ◌+◌, ◌/◌, map, option_copied, IfOk};
+ghost use Rattle.std.specs.Prelude.{◌≡◌, ◌≤◌, ◌/◌, ◌^◌, map, option_copied, IfOk, IsErr};
 ghost use Rattle.std.specs.Option.{unwrap_or};
 ghost use Rattle.ds_ast.specs.Bounds.{fields_of};
 ghost use Rattle.ds_ast.specs.declared.ty.Ty.{Struct};
@@ -13,7 +13,7 @@ ghost use Rattle.ds_shape.specs.Sizes.{layout_of, offset_of, rounded};
 ghost use Rattle.ds_meaning.specs.Values.{global_address};
 ghost use Rattle.ds_lower_parts.specs.Known.{addresses_from};
 
-use crate::places::FirstPlaces;
+use crate::places::{FirstPlaces, behind};
 use ds_ast::{Function, GlobalDef, Module, Name, Ty};
 use ds_shape::{
     Shapes, extents_are_computed, offsets_are_computed, offsets_exist, written_types_fit,
@@ -69,22 +69,13 @@ pub fn words_for(size: u64) -> u64
 /// The address of the word of the globals that stands behind so many. An `Err` comes only where it has more than 64
 /// bits.
 fn address_at(at: u64) -> Result<u64, AllocError>
-    ensures { IfOk result (λ address. address ≡ global_address at) }
+    ensures value { IfOk result (λ address. address ≡ global_address at) }
+    ensures large { IsErr result → 2 ^ 64 ≤ global_address at }
 {
-    if at > 0x1000_0000_0000_0000 {
+    if at > 0x1fff_ffff_ffff_fdff {
         return Err(AllocError);
     }
     Ok(GLOBALS_START + 8 * at)
-}
-
-/// The sum of two numbers of words. An `Err` comes only where it has more than 64 bits.
-fn behind(at: u64, words: u64) -> Result<u64, AllocError>
-    ensures { IfOk result (λ sum. sum ≡ at + words) }
-{
-    if at > 0xffff_ffff_ffff_ffff - words {
-        return Err(AllocError);
-    }
-    Ok(at + words)
 }
 
 /// The addresses of the globals.

@@ -96,10 +96,10 @@ push_fields-loop-n-preserved t c =
     fits lt c.loop-n-test.true c.field_at-ty.ensures.item c.index-parts-n.is c.loop-n.invariant.begin c.args.name.now
     (sym c.fields_of.ensures.value ∙ ap option_copied c.in-Some.is)
     (c.offset_of-offset.ensures
-    ∙ ap (λ k. unwrap_or (offset_of c.args.scope.now.structs c.args.name.now k) 0) c.in_ok-field.ensures) in
+    ∙ ap (λ k. unwrap_or (offset_of c.args.scope.now.structs c.args.name.now k) 0) c.in_ok-field.ensures.value) in
     let end : c.in_ok-at.at ≡ c.offset_of-offset.result + (layout_of c.args.scope.now.structs
     c.field_at-ty.result.now).size =
-    c.in_ok-at.ensures ∙ ap (λ k. c.offset_of-offset.result + k) c.size_of.ensures in
+    c.in_ok-at.ensures.value ∙ ap (λ k. c.offset_of-offset.result + k) c.size_of.ensures in
     record {
       same = field_on c.args.scope.now c.in-Some.types.now c.args.parts.now c.loop-n.at c.loop-n.n
           c.offset_of-offset.result c.args.size c.field_at-ty.result.now c.index-parts-n.result

@@ -1,7 +1,7 @@
 use Rattle.std.proofs.Common.{◌≡◌, ◌++◌, drop}
 use Rattle.ds_code.specs.Lowering.{front}
-use Rattle.ds_lower.proofs.phis.front_of.Given as goal
+use Rattle.ds_lower.proofs.phis.push_front.Given as goal
 
 -- the phis so far and those from here on
 abbrev pub invariant-loop-n : goal.invariant-loop-n
-invariant-loop-n l = l.made.items ++ front (drop l.n l.code) ≡ front l.code
+invariant-loop-n l = l.phis.items ++ front (drop l.n l.code) ≡ l.initial.phis.items ++ front l.code
