@@ -8,4 +8,5 @@ pub mod History
 pub mod Explained
 pub mod Turns
 pub mod Stands
+pub mod Asking
 pub mod Small

@@ -6,6 +6,7 @@ use Rattle.ds_map.specs.Bounds.{Bounds}
 use Rattle.ds_step.specs.declared.Event.{Event}
 use Rattle.ds_step.specs.declared.Event.TheVariants as events
 use Rattle.ds_step.specs.declared.Step.{Step}
+use Rattle.ds_plain.specs.declared.Cue.{Cue}
 use Rattle.ds_plain.specs.declared.Position.{Position}
 use Rattle.ds_plain.specs.declared.Position.TheVariants.{Start, Access, DrawPrint, StoreEnded, Over, NoRow}
 use Rattle.ds_plain.specs.Behaviour.{Program}
@@ -61,11 +62,6 @@ abbrev pub is_end : Step → Bool
 is_end step = ends_thread (passing_of step.event)
 
 -- SCHEDULES
-
--- the thread of this number has turns until one makes the row `until`, must wait, or is its last
-pub record Cue : Type 0 where
-  pub thread : ℕ
-  pub until : ℕ
 
 -- where a schedule stands
 pub record Turns : Type 0 where

@@ -150,3 +150,13 @@ pub enum Position {
     /// It asks for what the table has no row for yet, and makes no step.
     NoRow,
 }
+
+/// What a schedule begins with: a thread has turns until one makes a row, must wait, or is its last. A cue for a thread
+/// that was not given out, or that has ended, is passed over.
+#[derive(Clone, Copy, Debug, PartialEq, Eq)]
+pub struct Cue {
+    /// The number of the thread.
+    pub thread: u8,
+    /// The number of the row of the step table.
+    pub until: u8,
+}

@@ -7,7 +7,8 @@ use Rattle.ds_step.specs.declared.Step.{Step}
 use Rattle.ds_plain.specs.Behaviour.{Program}
 use Rattle.ds_plain.specs.History.{History}
 use Rattle.ds_plain.specs.Explained.{trace_of}
-use Rattle.ds_plain.specs.Turns.{Cue, Turns, first_turns, next_turn, turns_behind, IsTurnByTurn}
+use Rattle.ds_plain.specs.declared.Cue.{Cue}
+use Rattle.ds_plain.specs.Turns.{Turns, first_turns, next_turn, turns_behind, IsTurnByTurn}
 use Rattle.ds_plain.specs.Turns.{Remaining, is_ended, left_behind, IsLeft, IsInRounds}
 use Rattle.ds_tried.specs.Schedules.{EachIs, NoneIs, Schedules}
 use Rattle.ds_tried.specs.Rounds.{roomy, EachMade, NoneMade, Made}

@@ -5,7 +5,8 @@ use Rattle.ds_step.specs.declared.Event.{Event}
 use Rattle.ds_step.specs.declared.Event.TheVariants.{Begin, Spawn, Join, End, Load, Store, Log}
 use Rattle.ds_step.specs.declared.Step.{Step}
 use Rattle.ds_plain.specs.History.{History}
-use Rattle.ds_plain.specs.Turns.{Cue, Turns, next_turn, turns_behind, turning, IsScheduled}
+use Rattle.ds_plain.specs.declared.Cue.{Cue}
+use Rattle.ds_plain.specs.Turns.{Turns, next_turn, turns_behind, turning, IsScheduled}
 
 -- a step of this row that was answered so and means this; what it does to its word is no matter here
 abbrev pub step_of : (row old : ℕ) → Event → Step
