@@ -1,0 +1,3 @@
+mod Lists
+mod Acts
+pub mod Rows
