@@ -1,0 +1,4 @@
+mod Arrives
+mod Within
+mod Kept
+mod Starts

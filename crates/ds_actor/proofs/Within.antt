@@ -1,0 +1,275 @@
+-- Whatever the code, a thread asks only for the program's words.
+use Rattle.std.proofs.Common.{◌≡◌, ℕ, zero, suc, ◌+◌, ◌*◌, ◌/◌, ◌%◌, ◌<◌, ◌≤◌, Bool, true, false, not}
+use Rattle.std.proofs.Common.{◌&&◌, ◌||◌, ◌==◌, if◌then◌else◌, nat_lt, nat_le, List, [], ◌∷◌, length, Option, Some, None}
+use Rattle.std.proofs.Common.{Result, Ok, Err, refl, arith, option_map, slice_get}
+use Rattle.std.proofs.lemmas.Bool.{and_parts}
+use Rattle.std.proofs.lemmas.Bool.Decides.{nat_tests}
+use Rattle.ds_ast.specs.declared.ty.Scalar.{Scalar}
+use Rattle.ds_ast.specs.declared.ty.Scalar.TheVariants.{Ptr}
+use Rattle.ds_arith.specs.declared.fault.ArithFault.{ArithFault}
+use Rattle.ds_map.specs.Bounds.{Bounds}
+use Rattle.ds_map.specs.Blocks.{is_marked}
+use Rattle.ds_map.specs.Regions.{Region, globals, stacks, stack, heap, lies_in, location_in, location_of, program_words}
+use Rattle.ds_shape.specs.Sizes.{scalar_size, rounded}
+use Rattle.ds_plain.specs.declared.Access.{Access}
+use Rattle.ds_plain.specs.declared.Place.{Place}
+use Rattle.ds_plain.specs.declared.TrapKind.{TrapKind}
+use Rattle.ds_plain.specs.declared.TrapKind.TheVariants as kinds
+use Rattle.ds_plain.specs.declared.Stop.{Stop}
+use Rattle.ds_plain.specs.declared.Stop.TheVariants.{Idle, Returned, Trap, Full, Fuel}
+use Rattle.ds_plain.specs.declared.Stop.TheVariants as stops
+use Rattle.ds_plain.specs.declared.Request.{Request}
+use Rattle.ds_plain.specs.declared.Request.TheVariants as requests
+use Rattle.ds_plain.specs.declared.AccessAt.TheVariants.{StoreWord}
+use Rattle.ds_plain.specs.declared.Position.TheVariants.{NoRow, StoreEnded}
+use Rattle.ds_plain.specs.declared.Position.TheVariants as positions
+use Rattle.ds_plain.specs.Asking.{IsWithin, IsAskedWithin}
+use Rattle.ds_plain.specs.Behaviour.{Outcome, Goes, Wants, Stops, Stuck, Asked, Asks, Silent, asked_by, ask, one_more}
+use Rattle.ds_plain.specs.Behaviour.{behaviour}
+use Rattle.ds_plain.specs.Parts.{is_whole}
+use Rattle.ds_plain.specs.Table.{position_of, end_by}
+use Rattle.ds_meaning.specs.Control.{ReturnValue}
+use Rattle.ds_meaning.specs.Memory.{access_at}
+use Rattle.ds_code.specs.declared.frames.Waiting.{Waiting}
+use Rattle.ds_code.specs.declared.sources.Copying.{Copying}
+use Rattle.ds_code.specs.declared.ops.Edge.{Edge}
+use Rattle.ds_code.specs.declared.ops.MemoryOp.{MemoryOp}
+use Rattle.ds_code.specs.declared.ops.MemoryOp.TheVariants.{Load, Store, Rmw, Cmpxchg}
+use Rattle.ds_code.specs.declared.ops.ExternalOp.{ExternalOp}
+use Rattle.ds_code.specs.declared.ops.ExternalOp.TheVariants.{Malloc, Free, Print, Spawn, Join, Note}
+use Rattle.ds_code.specs.declared.ops.CodeOp.{CodeOp}
+use Rattle.ds_code.specs.declared.ops.CodeOp.TheVariants.{Compute, Alloca, Memory, External, Skip, Call, Ret, Branch}
+use Rattle.ds_code.specs.declared.ops.CodeOp.TheVariants.{Unreachable, Unknown}
+use Rattle.ds_code.specs.declared.ops.CodeInstr.{CodeInstr}
+use Rattle.ds_code.specs.declared.functions.CodeFunction.{CodeFunction}
+use Rattle.ds_code.specs.Machine.{Running, Machine, at_hand, top, place_of, input, value, copied}
+use Rattle.ds_code.specs.CodeMeaning.{computed, computes, allocates, judged_by, judged, located, requested}
+use Rattle.ds_code.specs.CodeMeaning.{type_at, address_in, frees, noted, asks, chosen, branches, calls, returned}
+use Rattle.ds_code.specs.CodeMeaning.{returns, waiting, traps, act, act_at, step, results, on}
+use Rattle.ds_code.specs.CodeProgram.{start, fits, overflows, behaves}
+
+-- WHERE AN ADDRESS LIES
+
+abbrev LocWithin : Bounds → Option ℕ → Type 0
+LocWithin lim None = Unit {0}
+LocWithin lim (Some loc) = loc < program_words lim
+
+region_within : (lim : Bounds) (region : Region) (address : ℕ) → region.location + region.count ≤ program_words lim
+    → lies_in region address ≡ true → location_in region address < program_words lim
+region_within lim region address le e =
+    let both = and_parts (nat_le region.start address) (nat_lt address (region.start + 8 * region.count)) e in
+    let low : region.start ≤ address = grind (arith, nat_tests, both.0) in
+    let high : address < region.start + 8 * region.count = grind (arith, nat_tests, both.1) in
+    omega (arith, low, high, le)
+
+within_by : (lim : Bounds) (region : Region) (address : ℕ) (other : Option ℕ) (b : Bool)
+    → lies_in region address ≡ b → region.location + region.count ≤ program_words lim → LocWithin lim other
+    → LocWithin lim (if b then Some (location_in region address) else other)
+within_by lim region address other true e le rest = region_within lim region address le e
+within_by lim region address other false e le rest = rest
+
+location_within : (lim : Bounds) (address : ℕ) → LocWithin lim (location_of lim address)
+location_within lim address =
+    within_by lim globals address _ (lies_in globals address) refl (omega arith)
+    (within_by lim stacks address _ (lies_in stacks address) refl (omega arith)
+    (within_by lim (heap lim) address _ (lies_in (heap lim) address) refl (omega arith) tt))
+
+-- ACCESSES
+
+abbrev AccessWithin : Bounds → Option Access → Type 0
+AccessWithin lim None = Unit {0}
+AccessWithin lim (Some access) = access.loc < program_words lim
+
+mapped : (lim : Bounds) (shift bits : ℕ) (loc : Option ℕ) → LocWithin lim loc
+    → AccessWithin lim (option_map (λ (loc : ℕ). record { loc = loc; shift = shift; bits = bits }) loc)
+mapped lim shift bits None h = tt
+mapped lim shift bits (Some loc) h = h
+
+pub by_test : {A : Type 0} (P : A → Type 0) (b : Bool) (x y : A) → P x → P y → P (if b then x else y)
+by_test P true x y p q = p
+by_test P false x y p q = q
+
+access_within : (lim : Bounds) (ty : Scalar) (address : ℕ) → AccessWithin lim (access_at lim ty address)
+access_within lim ty address =
+    by_test (AccessWithin lim) (address % scalar_size ty == 0) _ _
+    (mapped lim (8 * (address % 8)) (8 * scalar_size ty) (location_of lim address) (location_within lim address)) tt
+
+abbrev JudgedWithin : Bounds → Result Access TrapKind → Type 0
+JudgedWithin lim (Ok access) = access.loc < program_words lim
+JudgedWithin lim (Err kind) = Unit {0}
+
+judged_by_within : (lim : Bounds) (address : ℕ) (found : Option Access) → AccessWithin lim found
+    → JudgedWithin lim (judged_by address found)
+judged_by_within lim address None h = tt
+judged_by_within lim address (Some access) h = h
+
+judged_within : (lim : Bounds) (ty : Scalar) (address : ℕ) → JudgedWithin lim (judged lim ty address)
+judged_within lim ty address =
+    by_test (JudgedWithin lim) (is_marked address) (Err (kinds.UseAfterFree address)) _ tt
+    (judged_by_within lim address (access_at lim ty address) (access_within lim ty address))
+
+-- INSTRUCTIONS
+
+-- what is asked works on one of the program's words
+abbrev Fits : Bounds → Outcome Machine → Type 0
+Fits lim (Goes q) = Unit {0}
+Fits lim (Wants place request answered) = IsWithin lim (position_of request)
+Fits lim (Stops place stop) = Unit {0}
+Fits lim Stuck = Unit {0}
+
+module _ (r : Running) (q : Machine) (i : CodeInstr) where
+  located_fits : (found : Result Access TrapKind) (go : Access → Outcome Machine) → JudgedWithin r.lim found
+      → ((access : Access) → access.loc < program_words r.lim → Fits r.lim (go access))
+      → Fits r.lim (located q i found go)
+  located_fits (Ok access) go h all = all access h
+  located_fits (Err kind) go h all = tt
+
+  storing : (b : Bool) (loc value : ℕ) → loc < program_words r.lim
+      → IsWithin r.lim (if b then positions.Access (StoreWord loc value) else NoRow)
+  storing true loc value lt = lt
+  storing false loc value lt = tt
+
+  requested_within : (access : Access) (op : MemoryOp) → access.loc < program_words r.lim
+      → IsWithin r.lim (position_of (requested q access op))
+  requested_within access (Load ty at) lt = lt
+  requested_within access (Store ty v at) lt = storing (is_whole access) access.loc (value q ty v) lt
+  requested_within access (Rmw op at ty v) lt = tt
+  requested_within access (Cmpxchg at ty expected new exchanged) lt = tt
+
+  moves_or_traps : (b : Bool) (to : Machine) (kind : TrapKind)
+      → Fits r.lim (if b then Goes to else traps q i kind)
+  moves_or_traps true to kind = tt
+  moves_or_traps false to kind = tt
+
+  moves_or_asks : (b : Bool) (to : Machine) (place : Place) (request : Request) (answered : ℕ → Machine)
+      → IsWithin r.lim (position_of request) → Fits r.lim (if b then Goes to else Wants place request answered)
+  moves_or_asks true to place request answered h = tt
+  moves_or_asks false to place request answered h = h
+
+  asks_or_traps : (b : Bool) (place : Place) (request : Request) (answered : ℕ → Machine) (kind : TrapKind)
+      → IsWithin r.lim (position_of request) → Fits r.lim (if b then Wants place request answered else traps q i kind)
+  asks_or_traps true place request answered kind h = h
+  asks_or_traps false place request answered kind h = tt
+
+  computes_fits : (found : Result ℕ ArithFault) → Fits r.lim (computes q i found)
+  computes_fits (Ok n) = tt
+  computes_fits (Err fault) = tt
+
+  noted_fits : (loc v : ℕ) → Fits r.lim (noted r q i loc v)
+  noted_fits loc v =
+      moves_or_asks (is_marked v || not (lies_in (heap r.lim) v)) (on q) (place_of q i) (requests.Note loc v)
+      (λ z. on q) tt
+
+  abbrev frees_whole : ℕ → Outcome Machine
+  frees_whole address =
+      if lies_in (heap r.lim) address && address % 8 == 0 then
+      Wants (place_of q i) (requests.Free address) (λ z. on q)
+      else traps q i (kinds.BadFree address)
+
+  abbrev frees_marked : ℕ → Outcome Machine
+  frees_marked address = if is_marked address then traps q i (kinds.MarkedFree address) else frees_whole address
+
+  frees_fits : (address : ℕ) → Fits r.lim (frees r q i address)
+  frees_fits address =
+      by_test (Fits r.lim) (address == 0) (Goes (on q)) (frees_marked address) tt
+      (by_test (Fits r.lim) (is_marked address) (traps q i (kinds.MarkedFree address)) (frees_whole address) tt
+      (asks_or_traps (lies_in (heap r.lim) address && address % 8 == 0) (place_of q i) (requests.Free address)
+      (λ z. on q) (kinds.BadFree address) tt))
+
+  asks_fits : (op : ExternalOp) → Fits r.lim (asks r q i op)
+  asks_fits (Malloc bytes) =
+      moves_or_asks (nat_lt 4095 (input q bytes)) (results q i.to 0) (place_of q i)
+      (requests.Malloc (input q bytes)) (λ address. results q i.to address) tt
+  asks_fits (Free at) = frees_fits (input q at)
+  asks_fits (Print v) = tt
+  asks_fits (Spawn at function argument) =
+      located_fits (judged r.lim Ptr (input q at)) _ (judged_within r.lim Ptr (input q at)) (λ access lt. tt)
+  asks_fits (Join thread) = tt
+  asks_fits (Note at v) =
+      located_fits (judged r.lim Ptr (value q Ptr at)) _ (judged_within r.lim Ptr (value q Ptr at))
+      (λ access lt. noted_fits access.loc (value q Ptr v))
+
+  allocates_fits : (words : ℕ) → Fits r.lim (allocates r q i words)
+  allocates_fits words =
+      moves_or_traps (nat_le (q.taken + words) (stack r.thread).count)
+      (record (results q i.to ((stack r.thread).start + 8 * q.taken)) { taken = q.taken + words }) kinds.StackLimit
+
+  branches_fits : (edge : Option Edge) → Fits r.lim (branches q edge)
+  branches_fits None = tt
+  branches_fits (Some e) = tt
+
+  calls_fits : (number : ℕ) (arguments : List Copying) (f : Option CodeFunction)
+      → Fits r.lim (calls r q i number arguments f)
+  calls_fits number arguments None = tt
+  calls_fits number arguments (Some f) =
+      moves_or_traps (nat_le (top r q + f.cells) 65536 && nat_lt (length (waiting q i)) 1024)
+      (record {
+        function = number;
+        at = 0;
+        base = top r q;
+        taken = q.taken;
+        cells = copied q (top r q) arguments;
+        below = waiting q i;
+      }) kinds.StackLimit
+
+  returns_fits : (v : ReturnValue) (below : List Waiting) → Fits r.lim (returns q i v below)
+  returns_fits v [] = tt
+  returns_fits v (w ∷ ws) = tt
+
+  act_fits : (op : CodeOp) → Fits r.lim (act r q i op)
+  act_fits (Compute op) = computes_fits (computed q op)
+  act_fits (Alloca size count) = allocates_fits (rounded (input q count * size) 8 / 8)
+  act_fits (Memory op) =
+      located_fits (judged r.lim (type_at op) (value q Ptr (address_in op))) _
+      (judged_within r.lim (type_at op) (value q Ptr (address_in op))) (λ access lt. requested_within access op lt)
+  act_fits (External op) = asks_fits op
+  act_fits Skip = tt
+  act_fits (Call function arguments) = calls_fits function arguments (slice_get r.code.functions function)
+  act_fits (Ret v) = returns_fits (returned q v) q.below
+  act_fits (Branch op) = branches_fits (chosen q op)
+  act_fits Unreachable = tt
+  act_fits Unknown = tt
+
+act_at_fits : (r : Running) (q : Machine) (i : Option CodeInstr) → Fits r.lim (act_at r q i)
+act_at_fits r q None = tt
+act_at_fits r q (Some i) = act_fits r q i i.op
+
+step_fits : (r : Running) (q : Machine) → Fits r.lim (step r q)
+step_fits r q = act_at_fits r q (at_hand r q)
+
+-- WHAT IS ASKED
+
+more_within : (lim : Bounds) (asked : Asked) → IsAskedWithin lim asked → IsAskedWithin lim (one_more asked)
+more_within lim (Asks begun place request) h = h
+more_within lim Silent h = tt
+
+stop_within : (lim : Bounds) (stop : Stop) → IsWithin lim (end_by stop)
+stop_within lim Idle = tt
+stop_within lim stops.Running = tt
+stop_within lim (Returned value) = tt
+stop_within lim (Trap trap) = tt
+stop_within lim (Full place what) = tt
+stop_within lim Fuel = tt
+
+by_outcome : (lim : Bounds) (go : Machine → Asked) (o : Outcome Machine) → ((q : Machine) → IsAskedWithin lim (go q))
+    → Fits lim o → IsAskedWithin lim (asked_by go o)
+by_outcome lim go (Goes q) all h = more_within lim (go q) (all q)
+by_outcome lim go (Wants place request answered) all h = h
+by_outcome lim go (Stops place stop) all h = stop_within lim stop
+by_outcome lim go Stuck all h = tt
+
+pub ask_within : (r : Running) (n : ℕ) (q : Machine) → IsAskedWithin r.lim (ask (step r) n q)
+ask_within r zero q = tt
+ask_within r (suc n) q = by_outcome r.lim (ask (step r) n) (step r q) (λ q'. ask_within r n q') (step_fits r q)
+
+overflow_within : (lim : Bounds) (function n : ℕ) → IsAskedWithin lim (ask (overflows function) n tt)
+overflow_within lim function zero = tt
+overflow_within lim function (suc n) = tt
+
+pub begin_within : (r : Running) (function argument : ℕ) → IsAskedWithin r.lim (behaves r function argument [])
+begin_within r function argument = by_fit (fits r.code function)
+  where
+    by_fit : (b : Bool) → IsAskedWithin r.lim ((if b then behaviour (step r) r.lim.fuel (start r.code function argument)
+        else behaviour (overflows function) r.lim.fuel tt) [])
+    by_fit true = ask_within r r.lim.fuel (start r.code function argument)
+    by_fit false = overflow_within r.lim function r.lim.fuel

@@ -1,0 +1,14 @@
+//! One thread of a run: an actor makes the rows of the step table for what its code asks, one row a turn.
+#![tactic(auto)]
+
+mod actor;
+mod make;
+mod outcome;
+mod place;
+mod table;
+#[cfg(test)]
+mod tests;
+
+pub use actor::Actor;
+pub use make::turn;
+pub use outcome::Turn;

@@ -1,0 +1,153 @@
+//! The step table as code: the step of each position.
+
+ghost use Rattle.std.specs.Prelude.{◌≡◌, ◌<◌};
+ghost use Rattle.ds_map.specs.Regions.{program_words};
+ghost use Rattle.ds_map.specs.Words.{control_words, words};
+ghost use Rattle.ds_plain.specs.Table.{op_at, row_at, event_at, start_word, start_op, start_row, start_event};
+ghost use Rattle.ds_plain.specs.Table.{access_op, access_row, access_event, load_of, store_of, step_at};
+ghost use Rattle.ds_plain.specs.Asking.{IsWithin, loc_of};
+
+use ds_map::{Limits, word_of};
+use ds_plain::{AccessAt, Position, StartAt};
+use ds_step::{Event, OpKind, Step, WordOp};
+
+/// The word that counts the prints.
+const PRINTS_WORD: u32 = 2;
+
+/// The word that says whether thread 0 may start. The other threads' words follow it.
+const FIRST_START_WORD: u32 = 16;
+
+// OPERATIONS
+
+/// A load of a word of the table.
+fn load(word: u32) -> WordOp
+    ensures { result ≡ load_of word }
+{
+    WordOp {
+        kind: OpKind::Load,
+        word,
+        a: 0,
+        b: 0,
+    }
+}
+
+/// A store of a value to a word of the table.
+fn store(word: u32, value: u64) -> WordOp
+    ensures { result ≡ store_of word value }
+{
+    WordOp {
+        kind: OpKind::Store,
+        word,
+        a: value,
+        b: 0,
+    }
+}
+
+/// The start word of a thread.
+fn start_word_of(thread: u8) -> u32
+    requires { thread < 16 }
+    ensures word { result ≡ start_word thread }
+    ensures control { result < control_words }
+{
+    FIRST_START_WORD + u32::from(thread)
+}
+
+/// The operation that a thread makes before it begins.
+fn start_op_of(thread: u8, at: StartAt) -> WordOp
+    requires { thread < 16 }
+    ensures op { result ≡ start_op thread at }
+    ensures control { result.word < control_words }
+{
+    match at {
+        StartAt::LoadStart => load(start_word_of(thread)),
+    }
+}
+
+/// The operation that a thread makes on program memory.
+fn access_op_of(limits: &Limits, at: AccessAt) -> WordOp
+    requires { loc_of at < program_words limits.now }
+    ensures op { result ≡ access_op limits.now at }
+    ensures word { result.word < words limits.now }
+{
+    match at {
+        AccessAt::LoadWord { loc } => load(word_of(limits, loc)),
+        AccessAt::StoreWord { loc, value } => store(word_of(limits, loc), value),
+    }
+}
+
+/// The operation that a thread makes at a position.
+pub fn op_of(limits: &Limits, thread: u8, position: Position) -> WordOp
+    requires thread { thread < 16 }
+    requires location { IsWithin limits.now position }
+    ensures op { result ≡ op_at limits.now thread position }
+    ensures word { result.word < words limits.now }
+{
+    let _pages = limits.pages();
+    match position {
+        Position::Start(at) => start_op_of(thread, at),
+        Position::Access(at) => access_op_of(limits, at),
+        Position::DrawPrint { value: _ } => WordOp {
+            kind: OpKind::Add,
+            word: PRINTS_WORD,
+            a: 1,
+            b: 0,
+        },
+        Position::StoreEnded { stop: _ } => store(start_word_of(thread), 2),
+        Position::Over { stop: _ } => load(0),
+        Position::NoRow => load(0),
+    }
+}
+
+// ROWS AND EVENTS
+
+/// The number of a row before a thread begins, and what the answer means there.
+fn start_meaning_of(thread: u8, at: StartAt, old: u64) -> (u8, Event)
+    ensures row { result.0 ≡ start_row at }
+    ensures event { result.1 ≡ start_event thread at old }
+{
+    match at {
+        StartAt::LoadStart if thread == 0 && old == 1 => (1, Event::Begin),
+        StartAt::LoadStart => (1, Event::Log),
+    }
+}
+
+/// The number of a row on program memory, and what the answer means there.
+fn access_meaning_of(at: AccessAt, old: u64) -> (u8, Event)
+    ensures row { result.0 ≡ access_row at }
+    ensures event { result.1 ≡ access_event at old }
+{
+    match at {
+        AccessAt::LoadWord { loc } => (14, Event::Load { loc, value: old }),
+        AccessAt::StoreWord { loc, value } => (15, Event::Store { loc, value }),
+    }
+}
+
+/// The number of a position's row, and what the answer means there.
+fn meaning_of(thread: u8, position: Position, old: u64) -> (u8, Event)
+    ensures row { result.0 ≡ row_at position }
+    ensures event { result.1 ≡ event_at thread position old }
+{
+    match position {
+        Position::Start(at) => start_meaning_of(thread, at, old),
+        Position::Access(at) => access_meaning_of(at, old),
+        Position::DrawPrint { value } => (13, Event::Print { number: old, value }),
+        Position::StoreEnded { stop: _ } => (12, Event::End),
+        Position::Over { stop: _ } => (0, Event::Log),
+        Position::NoRow => (0, Event::Log),
+    }
+}
+
+/// The step that a thread makes at a position, by the answer to its operation.
+pub fn step_of(limits: &Limits, thread: u8, position: Position, old: u64) -> Step
+    requires thread { thread < 16 }
+    requires location { IsWithin limits.now position }
+    ensures { result ≡ step_at limits.now thread position old }
+{
+    let (row, event) = meaning_of(thread, position, old);
+    Step {
+        op: op_of(limits, thread, position),
+        old,
+        row,
+        event,
+    }
+}
