@@ -1,4 +1,5 @@
-mod Steps_more
-mod Main_steps
-mod Recorded
-mod Instructions
+pub mod Moves
+pub mod Turned
+pub mod Recorded
+pub mod Firsts
+pub mod Returning

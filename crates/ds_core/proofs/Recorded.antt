@@ -1,59 +1,139 @@
 -- The record of a run in which main has ended.
-use Rattle.std.proofs.Common.{◌≡◌, ℕ, zero, suc, List, ◌∷◌, replicate, get_or, refl, sym, subst}
-use Rattle.std.proofs.lemmas.Bool.{ne_eqb}
+use Rattle.std.proofs.Common.{◌≡◌, ℕ, suc, ◌+◌, ◌<◌, Bool, true, List, []}
+use Rattle.std.proofs.Common.{length}
+use Rattle.std.proofs.Common.{replicate, drop, map, get_or, refl, ap}
+use Rattle.std.proofs.Common.{sym, subst}
+use Rattle.std.proofs.Common.{◌∙◌, arith, inl, inr}
+use Rattle.std.specs.Prelude.{nat_lt}
+use Rattle.std.proofs.lemmas.Bool.{cond_both}
+use Rattle.std.proofs.lemmas.List.{append-nil, get_or-map, get_or-drop, get_or-replicate, length-map, length-drop}
+use Rattle.std.proofs.lemmas.List.{ext_get_or}
+use Rattle.std.proofs.lemmas.Option.{slice_get_cases}
+use Rattle.ds_map.specs.Bounds.{Bounds}
+use Rattle.ds_map.specs.Words.{first_words, words as words_of}
 use Rattle.ds_step.specs.declared.Step.{Step}
-use Rattle.ds_small.specs.Module.{Module}
-use Rattle.ds_map.specs.Bounds.{default_limits}
+use Rattle.ds_plain.specs.declared.Cue.{Cue}
+use Rattle.ds_plain.specs.declared.Position.{Position}
+use Rattle.ds_plain.specs.declared.Position.TheVariants.{Start, Access, DrawPrint, StoreEnded, Over, NoRow}
 use Rattle.ds_plain.specs.declared.Stop.{Stop}
-use Rattle.ds_plain.specs.declared.Stop.TheVariants.{Idle, Running, Returned, Trap, Full, Fuel}
-use Rattle.ds_plain.specs.Small.{program_of}
-use Rattle.ds_plain.specs.Thread.{stop_of}
-use Rattle.ds_plain.specs.Explained.{HasEnded, IsRecord, IsLegalOrder, stop_in}
-use Rattle.ds_plain_laws.specs.Laws.{StandingIsRecorded}
-use Rattle.ds_core.specs.Ended.{IsOwnStop}
-use Rattle.ds_core.specs.Stands.{threads_at_end, HasEndedAll}
+use Rattle.ds_plain.specs.declared.Stop.TheVariants.{Idle}
+use Rattle.ds_plain.specs.Thread.{Thread, first_thread, stop_at, stop_of}
+use Rattle.ds_plain.specs.History.{History}
+use Rattle.ds_plain.specs.Explained.{HasEnded, IsRecord, stop_in}
+use Rattle.ds_plain.specs.Turns.{first_turns, IsTurnByTurn, IsScheduledOrder}
+use Rattle.ds_plain.specs.Stands.{Stands}
+use Rattle.ds_plain_laws.specs.Laws.{NothingStands, StandingIsRecorded}
+use Rattle.ds_code.specs.declared.functions.CodeParts.{CodeParts}
+use Rattle.ds_code.specs.CodeProgram.{program_of}
+use Rattle.ds_actor.specs.Actors.{ActorState}
+use Rattle.ds_schedule.specs.Standing.{Standing, StandsAt, main_has_ended}
+use Rattle.ds_core.specs.Fits.{FitsAt, Fits}
+use Rattle.ds_core.specs.Standing.{IsActor, AreActors, Runs, actor_stop}
+use Rattle.ds_core.proofs.Moves.{fits_first}
+use Rattle.ds_core.proofs.Turned.{as_told}
 
--- an element of a list of one value
-all_idle : (n t : ℕ) → get_or (replicate n Idle) t Idle ≡ Idle
-all_idle zero t = refl
-all_idle (suc n) zero = refl
-all_idle (suc n) (suc t) = all_idle n t
+-- before the first step
+pub runs_first : NothingStands → (code : CodeParts) (lim : Bounds) (cues : List Cue) (seed : ℕ) (image words : List ℕ)
+    (actors : List ActorState) (traces : List (List Step)) (order : List ℕ) (standing : Standing)
+    → image ≡ code.image → words ≡ first_words lim image → length words ≡ words_of lim
+    → AreActors code lim (λ t. first_thread lim) actors → traces ≡ replicate 16 [] → order ≡ []
+    → StandsAt standing (first_turns cues seed) → Runs code lim cues seed words actors traces order standing
+runs_first law code lim cues seed image words actors traces order standing same w len are t o at = record {
+  history = [];
+  threads = λ t. first_thread lim;
+  turns = first_turns cues seed;
+  whole = len;
+  sixteen_traces = ap length t;
+  in_order = sym o;
+  stands = subst (λ (ws : List ℕ). Stands (program_of lim code) lim traces [] ws (λ u. first_thread lim))
+      (sym (w ∙ ap (first_words lim) same))
+      (subst (λ (ts : List (List Step)). Stands (program_of lim code) lim ts [] (first_words lim code.image)
+      (λ u. first_thread lim)) (sym t) (law (program_of lim code) lim));
+  are_actors = are;
+  fits = fits_first lim;
+  others = λ t. refl;
+  alone = o ∙ ap (λ (l : List ℕ). replicate (length l) 0) (sym o);
+  scheduled = at;
+  by_turns = λ more rest. rest;
+  main_given = refl;
+}
 
--- main has ended with this stop, and the others were never started
-stops_at_end : (small : Module) (answers : List ℕ) (stop : Stop) (t : ℕ)
-    → stop_in (stop ∷ replicate 15 Idle) t ≡ stop_of (threads_at_end small answers stop t)
-stops_at_end small answers stop zero = refl
-stops_at_end small answers stop (suc t) = rw (ne_eqb 0 (suc t) (λ e. cc)) (all_idle 15 t)
+-- a thread that has made no step never began
+idle : (lim : Bounds) → stop_of (first_thread lim) ≡ Idle
+idle lim = cond_both (nat_lt 0 lim.fuel) _ _ (λ (a : Thread). stop_of a ≡ Idle) (λ e. refl) (λ e. refl)
 
--- a stop of main's own is an end
-own_ended : (stop : Stop) → IsOwnStop stop → HasEnded stop
-own_ended Idle own = own
-own_ended Running own = own
-own_ended (Returned value) own = own
-own_ended (Trap trap) own = own
-own_ended (Full place what) own = absurd own
-own_ended Fuel own = absurd own
+-- a thread that has ended stands so
+ended_at : (lim : Bounds) (began : Bool) (p : Position) (units : ℕ) → FitsAt lim true p units
+    → HasEnded (stop_at began p)
+ended_at lim began (Start at) units fits = cc
+ended_at lim began (Access at) units fits = cc
+ended_at lim began (DrawPrint value) units fits = cc
+ended_at lim began (StoreEnded stop) units fits = cc
+ended_at lim began (Over stop) units fits = fits.1
+ended_at lim began NoRow units fits = absurd fits
 
-pub main_ended : (stop : Stop) (stops : List Stop) → stops ≡ stop ∷ replicate 15 Idle → IsOwnStop stop
-    → HasEnded (stop_in stops 0)
-main_ended stop stops are own = subst (λ (s : List Stop). HasEnded (stop_in s 0)) (sym are) (own_ended stop own)
+module _ (code : CodeParts) (lim : Bounds) (threads : ℕ → Thread) (actors : List ActorState)
+    (are : AreActors code lim threads actors) (stops : List Stop) (stopped : stops ≡ map actor_stop actors) where
+  -- each actor stands as its thread does
+  stop_there : (t : ℕ) → t < 16 → stop_in stops t ≡ stop_of (threads t)
+  stop_there t lt =
+      elim (slice_get_cases actors t).1 [
+        | inl found ↦
+            let is : IsActor code lim t (threads t) found.0 = are.each t found.0 found.2 in
+            ap (λ (l : List Stop). stop_in l t) stopped ∙ get_or-map actor_stop actors t found.0 Idle found.1
+            ∙ ap actor_stop found.3 ∙ ap (λ (b : Bool). stop_at b found.0.position) is.at.began
+            ∙ ap (λ (p : Position). stop_at (threads t).began p) is.at.position
+        | inr past ↦ absurd (omega (arith, are.sixteen, past.0, lt))
+      ]
 
-module _ (law : StandingIsRecorded) (small : Module) (stop : Stop) (words : List ℕ) (traces : List (List Step))
-    (order : List ℕ) (ended : HasEndedAll small stop words traces order) where
-  -- what stands is a record with these stops, in its order
-  both : IsRecord (program_of small) default_limits (stop ∷ replicate 15 Idle) traces
-      × IsLegalOrder (program_of small) default_limits traces order
-  both =
-      let standing = law (program_of small) default_limits (stop ∷ replicate 15 Idle) traces ended.3.0 words
-      (threads_at_end small ended.1 stop) ended.0 (λ t lt. stops_at_end small ended.1 stop t) ended.3.2 in (
-        standing.0,
-        subst (IsLegalOrder (program_of small) default_limits traces) ended.3.1 standing.1,
-      )
+  sixteen : length stops ≡ 16
+  sixteen = ap length stopped ∙ length-map actors actor_stop ∙ are.sixteen
 
-  pub recorded : (stops : List Stop) → stops ≡ stop ∷ replicate 15 Idle
-      → IsRecord (program_of small) default_limits stops traces
-  recorded stops are = subst (λ (s : List Stop). IsRecord (program_of small) default_limits s traces) (sym are) both.0
+  -- the stops of the others
+  others_idle : ((t : ℕ) → threads (suc t) ≡ first_thread lim) → drop 1 stops ≡ replicate 15 Idle
+  others_idle others =
+      let long : length (drop 1 stops) ≡ 15 = length-drop 1 stops ∙ omega (arith, sixteen) in
+      ext_get_or Idle (drop 1 stops) (replicate 15 Idle) (long ∙ refl)
+      (λ i lt.
+      let next : 1 + i ≡ suc i = omega arith in
+      get_or-drop 1 stops i Idle ∙ ap (λ (n : ℕ). get_or stops n Idle) next ∙ stop_there (suc i) (omega (
+        arith,
+        long,
+        lt,
+      ))
+      ∙ ap stop_of (others i) ∙ idle lim ∙ sym (get_or-replicate 15 i Idle Idle (omega (arith, long, lt))))
 
-  -- the order is legal
-  pub ordered : IsLegalOrder (program_of small) default_limits traces order
-  ordered = both.1
+module _ (law : StandingIsRecorded) (code : CodeParts) (lim : Bounds) (cues : List Cue) (seed : ℕ) (words : List ℕ)
+    (actors : List ActorState) (traces : List (List Step)) (order : List ℕ) (standing : Standing)
+    (runs : Runs code lim cues seed words actors traces order standing) (stops : List Stop)
+    (stopped : stops ≡ map actor_stop actors) where
+  pub recorded : IsRecord (program_of lim code) lim stops traces
+  recorded =
+      (law (program_of lim code) lim stops traces runs.history words runs.threads runs.sixteen_traces
+      (stop_there code lim runs.threads actors runs.are_actors stops stopped) runs.stands).0
+
+  pub sixteen_stops : length stops ≡ 16
+  sixteen_stops = sixteen code lim runs.threads actors runs.are_actors stops stopped
+
+  pub all_idle : drop 1 stops ≡ replicate 15 Idle
+  all_idle = others_idle code lim runs.threads actors runs.are_actors stops stopped runs.others
+
+  pub main_ended : main_has_ended standing ≡ true → HasEnded (stop_in stops 0)
+  main_ended told =
+      let fits : Fits lim true (runs.threads 0) =
+      as_told code lim cues seed words actors traces order standing runs true told in
+      subst HasEnded (sym (stop_there code lim runs.threads actors runs.are_actors stops stopped 0 (omega arith)))
+      (ended_at lim (runs.threads 0).began (runs.threads 0).position (runs.threads 0).units fits.at)
+
+  pub ordered : main_has_ended standing ≡ true → IsScheduledOrder (program_of lim code) lim cues seed traces order
+  ordered told = (
+    runs.history,
+    runs.in_order,
+    runs.stands.interleaves,
+    runs.stands.legal,
+    subst (λ (h : History). IsTurnByTurn (first_turns cues seed) h) (append-nil runs.history)
+        (runs.by_turns [] (sym (runs.scheduled.ended 0 (omega arith)) ∙ told)),
+  )
+
+  pub alone : order ≡ replicate (length order) 0
+  alone = runs.alone

@@ -1,2 +1,2 @@
-pub mod Ended
-pub mod Stands
+pub mod Fits
+pub mod Standing

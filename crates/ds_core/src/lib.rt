@@ -1,14 +1,12 @@
-//! Runs a module on the shared words and records every step.
+//! Runs code on the shared words and records every step.
 #![tactic(auto)]
 
 mod lists;
 mod record;
-mod replay;
-mod small;
-mod table;
-#[cfg(test)]
-mod tests;
+mod replaying;
 
+pub use ds_actor::{Actor, Turn, turn};
+pub use ds_schedule::{Cues, Schedule};
 pub use lists::{Order, Steps, Stops, Traces};
 pub use record::{Ended, RunRecord};
-pub use replay::replay_small;
+pub use replaying::replay;

@@ -1,6 +1,6 @@
 -- What the ending of a call says, clause by clause.
 use Rattle.std.proofs.Common.{◌≡◌, ℕ, Bool, true, false, if◌then◌else◌, ◌⊎◌, inl, inr, List, [], ◌∷◌, length, Option}
-use Rattle.std.proofs.Common.{Some, refl, sym, subst, ◌∙◌, arith}
+use Rattle.std.proofs.Common.{Some, None, refl, sym, ap, subst, ◌∙◌, arith}
 use Rattle.std.specs.Prelude.{codes}
 use Rattle.std.specs.Option.{option_map}
 use Rattle.std.specs.List.{list_any}
@@ -10,19 +10,18 @@ use Rattle.ds_print.specs.Canonical.{canon}
 use Rattle.ds_report.specs.declared.fault.Fault.{Fault}
 use Rattle.ds_report.specs.declared.fault.Fault.TheVariants.{Usage, Read, TooLong, Parse, Shape, Check, OtherForm}
 use Rattle.ds_report.specs.Fault.{fault_text}
-use Rattle.ds_map.specs.Bounds.{default_limits}
+use Rattle.ds_map.specs.Bounds.{Bounds}
 use Rattle.ds_plain.specs.Explained.{is_fuel, stop_in}
-use Rattle.ds_plain.specs.Small.{program_of}
 use Rattle.ds_report.specs.Report.{IsReport}
 use Rattle.ds_report.specs.Stop.{is_trap}
 use Rattle.ds_report_laws.specs.Laws.{ReportsOfRuns}
 use Rattle.ds_main.specs.declared.job.Job.{Job}
 use Rattle.ds_main.specs.declared.job.Job.TheVariants as jobs
-use Rattle.ds_main.specs.Job.{IsJob, HasJob, NoJob, IsReplay}
+use Rattle.ds_main.specs.Job.{limits_in, IsJob, HasJob, NoJob, IsReplay}
 use Rattle.ds_main.specs.Input.{IsAccepted, IsModuleOfInput, SpellsAccepted, Held, function_names}
 use Rattle.ds_main.specs.Refusal.{IsRefused, AcceptedInputsAreNotRefused}
 use Rattle.ds_main.specs.Text.{IsTextOf, accepted_text}
-use Rattle.ds_main.specs.Run.{IsEmpty, IsRunOfInput}
+use Rattle.ds_main.specs.Run.{IsEmpty, IsRunOfInput, read_program}
 use Rattle.ds_main.specs.Replayed.{IsReportOfEachOrder}
 use Rattle.ds_main.specs.Status.{is_full, run_status, IsRunStatus, status_of, IsFaultStatus, IsCutShort, IsStatus}
 use Rattle.ds_main.specs.Due.{IsDue, IsDueText, IsOfModule}
@@ -30,21 +29,47 @@ use Rattle.ds_main.specs.Ending.{ReadRose, WriteRose, IsReadOut, Writing, Call, 
 use Rattle.ds_main.specs.Ending.{Ends}
 use Rattle.ds_main.proofs.Endings.{by_ending}
 
+-- a single word has no limits
+no_limits : (words : List (List ℕ)) (word : List ℕ) (lim : Bounds) → words ≡ word ∷ [] → limits_in words ≡ Some lim → ⊥
+no_limits words word lim one is =
+    let e : ◌≡◌ {A = Option Bounds} None (Some lim) = ap limits_in (sym one) ∙ is in absurd (cc e)
+
+-- words have one list of limits
+one_limits : (words : List (List ℕ)) (lim other : Bounds) → IsJob words (jobs.Replay lim)
+    → IsJob words (jobs.Replay other) → lim ≡ other
+one_limits words lim other (inl a) (inl b) = a.1 ∙ sym b.1
+one_limits words lim other (inl a) (inr b) = absurd (no_limits words (codes "replay") other a.0 b)
+one_limits words lim other (inr a) (inl b) = absurd (no_limits words (codes "replay") lim b.0 a)
+one_limits words lim other (inr a) (inr b) =
+    let e : ◌≡◌ {A = Option Bounds} (Some lim) (Some other) = sym a ∙ b in cc e
+
+-- a job that runs nothing has one word, which is not `replay`
+not_replay : (words : List (List ℕ)) (word : List ℕ) (lim : Bounds) → (codes "replay" ≡ word → ⊥) → words ≡ word ∷ []
+    → IsJob words (jobs.Replay lim) → ⊥
+not_replay words word lim other one (inl a) =
+    let e : codes "replay" ∷ [] ≡ word ∷ [] = sym a.0 ∙ one in
+    let same : codes "replay" ≡ word = cc e in other same
+not_replay words word lim other one (inr a) = no_limits words word lim one a
+
+not_check : codes "replay" ≡ codes "check" → ⊥
+not_check e = absurd (cc e)
+
+not_instrument : codes "replay" ≡ codes "instrument" → ⊥
+not_instrument e = absurd (cc e)
+
 -- words are of one job
 one_job : (words : List (List ℕ)) (job other : Job) → IsJob words job → IsJob words other → job ≡ other
-one_job words jobs.Replay jobs.Replay a b = refl
+one_job words (jobs.Replay lim) (jobs.Replay other) a b = ap jobs.Replay (one_limits words lim other a b)
 one_job words jobs.Check jobs.Check a b = refl
 one_job words jobs.Instrument jobs.Instrument a b = refl
-one_job words jobs.Replay jobs.Check a b =
-    let e : codes "replay" ∷ [] ≡ codes "check" ∷ [] = sym a ∙ b in absurd (cc e)
-one_job words jobs.Replay jobs.Instrument a b =
-    let e : codes "replay" ∷ [] ≡ codes "instrument" ∷ [] = sym a ∙ b in absurd (cc e)
-one_job words jobs.Check jobs.Replay a b =
-    let e : codes "check" ∷ [] ≡ codes "replay" ∷ [] = sym a ∙ b in absurd (cc e)
+one_job words (jobs.Replay lim) jobs.Check a b = absurd (not_replay words (codes "check") lim not_check b a)
+one_job words (jobs.Replay lim) jobs.Instrument a b =
+    absurd (not_replay words (codes "instrument") lim not_instrument b a)
+one_job words jobs.Check (jobs.Replay lim) a b = absurd (not_replay words (codes "check") lim not_check a b)
 one_job words jobs.Check jobs.Instrument a b =
     let e : codes "check" ∷ [] ≡ codes "instrument" ∷ [] = sym a ∙ b in absurd (cc e)
-one_job words jobs.Instrument jobs.Replay a b =
-    let e : codes "instrument" ∷ [] ≡ codes "replay" ∷ [] = sym a ∙ b in absurd (cc e)
+one_job words jobs.Instrument (jobs.Replay lim) a b =
+    absurd (not_replay words (codes "instrument") lim not_instrument a b)
 one_job words jobs.Instrument jobs.Check a b =
     let e : codes "instrument" ∷ [] ≡ codes "check" ∷ [] = sym a ∙ b in absurd (cc e)
 
@@ -54,14 +79,16 @@ text_of call job is x =
     subst (λ (j : Job). IsTextOf j x.input_module x.text) (one_job call.words x.job job x.is_job is) x.text_of
 
 -- a module that is run has no other text
-no_text : (call : Call) → IsJob call.words jobs.Replay → Answered call → ⊥
-no_text call is x = text_of call jobs.Replay is x
+no_text : (call : Call) (lim : Bounds) → IsJob call.words (jobs.Replay lim) → Answered call → ⊥
+no_text call lim is x = text_of call (jobs.Replay lim) is x
 
 pub headline : (call : Call) → Ends call
     → IsEmpty call.ended.run
-    ⊎ (IsJob call.words jobs.Replay × (m : Module) × IsRunOfInput call.source.left m call.ended.run)
+    ⊎ ((lim : Bounds) × IsJob call.words (jobs.Replay lim) × (m : Module)
+    × IsRunOfInput call.source.left lim m call.ended.run)
 headline call ends =
-    by_ending call _ (λ x. inl x.empty) (λ x. inr (x.job, x.input_module, x.run)) (λ x. inl x.empty) (λ x. x.run) ends
+    by_ending call _ (λ x. inl x.empty) (λ x. inr (x.lim, x.job, x.input_module, x.run)) (λ x. inl x.empty)
+    (λ x. x.run) ends
 
 -- what was delivered with another status than 5 was written whole
 whole : (text : List ℕ) (done : ℕ) (sink : Writing) (status : ℕ) → (status ≡ 5 → ⊥) → Delivers text done sink status
@@ -148,38 +175,58 @@ by_done call P is a b ends =
     (λ x. b x (whole x.text 0 call.sink call.ended.status other x.told))
     (λ x. absurd ((not_run call.ended.status is).1 x.unwritten.0)) ends
 
-pub ran : (call : Call) → Ends call → IsJob call.words jobs.Replay → IsRunStatus call.ended.status
-    → (m : Module) × IsRunOfInput call.source.left m call.ended.run
-ran call ends job is = by_done call _ is (λ x w. (x.input_module, x.run)) (λ x w. absurd (no_text call job x)) ends
+-- what was reported is a run within the limits of the words
+within : (call : Call) (lim : Bounds) → IsJob call.words (jobs.Replay lim) → (x : Reported call)
+    → IsRunOfInput call.source.left lim x.input_module call.ended.run
+within call lim job x =
+    subst (λ (l : Bounds). IsRunOfInput call.source.left l x.input_module call.ended.run)
+    (one_limits call.words x.lim lim x.job job) x.run
+
+pub ran : (call : Call) → Ends call → (lim : Bounds) → IsJob call.words (jobs.Replay lim)
+    → IsRunStatus call.ended.status → (m : Module) × IsRunOfInput call.source.left lim m call.ended.run
+ran call ends lim job is =
+    by_done call _ is (λ x w. (x.input_module, within call lim job x)) (λ x w. absurd (no_text call lim job x)) ends
 
 -- the report of a run is that of the plain machine's
-told_plainly : ReportsOfRuns → (call : Call) → (x : Reported call)
-    → IsReportOfEachOrder (function_names x.input_module) x.run.as_small call.ended.run x.text
-told_plainly law call x =
-    (law (function_names x.input_module) false (program_of x.run.as_small) default_limits call.ended.run.stops
-    call.ended.run.traces x.text x.run.run_of.sixteen_stops x.run.run_of.explained x.report).1
+told_plainly : ReportsOfRuns → (call : Call) (lim : Bounds) (m : Module) (text : List ℕ)
+    → IsRunOfInput call.source.left lim m call.ended.run
+    → IsReport (function_names m) call.ended.run.stops call.ended.run.traces false text
+    → IsReportOfEachOrder lim m call.ended.run text
+told_plainly law call lim m text run report =
+    (law (function_names m) false (read_program lim m) lim call.ended.run.stops call.ended.run.traces text
+    run.run_of.sixteen_stops run.run_of.explained report).1
 
-pub reported : (call : Call) → ReportsOfRuns → Ends call → IsJob call.words jobs.Replay
+pub reported : (call : Call) → ReportsOfRuns → Ends call → (lim : Bounds) → IsJob call.words (jobs.Replay lim)
     → IsRunStatus call.ended.status
-    → (m : Module) × (run : IsRunOfInput call.source.left m call.ended.run) × (text : List ℕ)
+    → (m : Module) × IsRunOfInput call.source.left lim m call.ended.run × (text : List ℕ)
     × IsReport (function_names m) call.ended.run.stops call.ended.run.traces false text
-    × IsReportOfEachOrder (function_names m) run.as_small call.ended.run text
+    × IsReportOfEachOrder lim m call.ended.run text
     × Takes call.sink.taken text call.sink.taken_after
-reported call law ends job is =
-    by_done call _ is (λ x w. (x.input_module, x.run, x.text, x.report, told_plainly law call x, w.1))
-    (λ x w. absurd (no_text call job x)) ends
+reported call law ends lim job is =
+    by_done call _ is
+    (λ x w. (
+      x.input_module,
+      within call lim job x,
+      x.text,
+      x.report,
+      told_plainly law call lim x.input_module x.text (within call lim job x) x.report,
+      w.1,
+    ))
+    (λ x w. absurd (no_text call lim job x)) ends
 
-pub run_status_is : (call : Call) → Ends call → IsJob call.words jobs.Replay → IsRunStatus call.ended.status
-    → call.ended.status ≡ run_status call.ended.run.stops
-run_status_is call ends job is = by_done call _ is (λ x w. w.0) (λ x w. absurd (no_text call job x)) ends
+pub run_status_is : (call : Call) → Ends call → (lim : Bounds) → IsJob call.words (jobs.Replay lim)
+    → IsRunStatus call.ended.status → call.ended.status ≡ run_status call.ended.run.stops
+run_status_is call ends lim job is =
+    by_done call _ is (λ x w. w.0) (λ x w. absurd (no_text call lim job x)) ends
 
 -- with status 0 a job that runs nothing has written its text
-answered : (call : Call) → Ends call → (job : Job) → (job ≡ jobs.Replay → ⊥) → IsJob call.words job
+answered : (call : Call) → Ends call → (job : Job) → ((lim : Bounds) → job ≡ jobs.Replay lim → ⊥)
+    → IsJob call.words job
     → call.ended.status ≡ 0
     → (m : Module) × IsModuleOfInput call.source.left m × (text : List ℕ) × IsTextOf job m text
     × Takes call.sink.taken text call.sink.taken_after
 answered call ends job other is zero =
-    by_done call _ (inl zero) (λ x w. absurd (other (one_job call.words job jobs.Replay is x.job)))
+    by_done call _ (inl zero) (λ x w. absurd (other x.lim (one_job call.words job (jobs.Replay x.lim) is x.job)))
     (λ x w. (x.input_module, x.of_input, x.text, text_of call job is x, w.1)) ends
 
 -- that is the text that the job has of each module
@@ -194,17 +241,17 @@ by_text call job text same (m, of, bytes, is, written) =
 pub checked : (call : Call) → Ends call → IsJob call.words jobs.Check → call.ended.status ≡ 0
     → (m : Module) × IsModuleOfInput call.source.left m × Takes call.sink.taken (accepted_text m) call.sink.taken_after
 checked call ends is zero =
-    by_text call jobs.Check accepted_text (λ m bytes e. e) (answered call ends jobs.Check (λ e. absurd (cc e)) is zero)
+    by_text call jobs.Check accepted_text (λ m bytes e. e) (answered call ends jobs.Check (λ lim e. absurd (cc e)) is zero)
 
 pub instrumented : (call : Call) → Ends call → IsJob call.words jobs.Instrument → call.ended.status ≡ 0
     → (m : Module) × IsModuleOfInput call.source.left m × Takes call.sink.taken (canon m) call.sink.taken_after
 instrumented call ends is zero =
     by_text call jobs.Instrument canon (λ m bytes e. e)
-    (answered call ends jobs.Instrument (λ e. absurd (cc e)) is zero)
+    (answered call ends jobs.Instrument (λ lim e. absurd (cc e)) is zero)
 
 pub of_replay : (call : Call) → Ends call → IsRunStatus call.ended.status → ¬ (call.ended.status ≡ 0)
-    → IsJob call.words jobs.Replay
-of_replay call ends is other = by_done call _ is (λ x w. x.job) (λ x w. absurd (other w.0)) ends
+    → (lim : Bounds) × IsJob call.words (jobs.Replay lim)
+of_replay call ends is other = by_done call _ is (λ x w. (x.lim, x.job)) (λ x w. absurd (other w.0)) ends
 
 pub read_out : (call : Call) → Ends call → IsRunStatus call.ended.status
     → call.source.left_after ≡ option_map (λ _. []) call.source.left
@@ -299,7 +346,7 @@ usage_is_told call ends none =
       | inl w ↦ inl (w.0 ∙ due_without_job call.words call.source.left (ReadRose call.source) x.fault none x.due)
       | inr w ↦ inr (inl w.0)
     ] in
-    by_ending call _ told (λ x. absurd (none jobs.Replay x.job)) (λ x. absurd (none x.job x.is_job))
+    by_ending call _ told (λ x. absurd (none (jobs.Replay x.lim) x.job)) (λ x. absurd (none x.job x.is_job))
     (λ x. inr (inr x.unwritten.0)) ends
 
 -- where a job has the words, the fault is one of the input
@@ -314,14 +361,12 @@ due_with_job words left rose (Check fault names) job is due = inl refl
 due_with_job words left rose OtherForm job is due = inl refl
 
 -- what was run was accepted
-run_is_accepted : (left : Option (List ℕ)) (call : Call) (bytes : List ℕ) (m : Module) → left ≡ Some bytes
-    → IsRunOfInput left m call.ended.run → IsAccepted jobs.Replay bytes
-run_is_accepted left call bytes m held run = (
-  run.as_small,
+run_is_accepted : (left : Option (List ℕ)) (call : Call) (bytes : List ℕ) (lim : Bounds) (m : Module)
+    → left ≡ Some bytes → IsRunOfInput left lim m call.ended.run → IsAccepted (jobs.Replay lim) bytes
+run_is_accepted left call bytes lim m held run = (
+  m,
   (
-    m,
-    subst (λ (b : List ℕ). SpellsAccepted b m) (sym (run.of_input.held bytes held))
-        run.of_input.spelled,
+    subst (λ (b : List ℕ). SpellsAccepted b m) (sym (run.of_input.held bytes held)) run.of_input.spelled,
     run.form,
   ),
 )
@@ -329,7 +374,7 @@ run_is_accepted left call bytes m held run = (
 -- an input that spells an accepted module is accepted for a job that has a text
 text_is_accepted : (job : Job) (bytes : List ℕ) (m : Module) (text : List ℕ) → IsTextOf job m text
     → SpellsAccepted bytes m → IsAccepted job bytes
-text_is_accepted jobs.Replay bytes m text is spelled = absurd is
+text_is_accepted (jobs.Replay lim) bytes m text is spelled = absurd is
 text_is_accepted jobs.Check bytes m text is spelled = (m, spelled)
 text_is_accepted jobs.Instrument bytes m text is spelled = (m, spelled)
 
@@ -361,8 +406,8 @@ refusal_is_told call law ends job is bytes held bad =
     ] in
     by_ending call _ told
     (λ x. absurd (law job bytes
-    (done_is_accepted call.words bytes job jobs.Replay is x.job
-    (run_is_accepted call.source.left call bytes x.input_module held x.run)) bad))
+    (done_is_accepted call.words bytes job (jobs.Replay x.lim) is x.job
+    (run_is_accepted call.source.left call bytes x.lim x.input_module held x.run)) bad))
     (λ x. absurd (law job bytes
     (done_is_accepted call.words bytes job x.job is x.is_job (answer_is_accepted call bytes held x)) bad))
     (λ x. inr (inr (inr x.unwritten.0))) ends
@@ -388,7 +433,7 @@ write_failed call ends five =
     x.told in (p.0, fault_text x.fault, inl (x.fault, x.due, x.empty, refl), p.1))
     (λ x.
     let p = in_part x.text (run_status call.ended.run.stops) call.sink call.ended.status other_run five x.told in
-    (p.0, x.text, inr (inl (x.job, x.input_module, x.run, x.report)), p.1))
+    (p.0, x.text, inr (inl (x.lim, x.job, x.input_module, x.run, x.report)), p.1))
     (λ x.
     let p = in_part x.text 0 call.sink call.ended.status (λ e. absurd (omega (arith, e))) five x.told in
     (p.0, x.text, inr (inr (x.job, x.is_job, x.input_module, x.of_input, x.empty, x.text_of)), p.1))
@@ -437,20 +482,21 @@ no_fault words left rose OtherForm job bytes law is held accepted calm due =
     (inr (inr (inr (subst IsReplay (one_job words due.0 job due.1 is) due.2.1.0, due.2.1.1 bytes held))))
 
 -- an empty record is of no run
-empty_or_run : (call : Call) (left : Option (List ℕ)) (m : Module) → IsEmpty call.ended.run
-    → IsRunOfInput left m call.ended.run → ⊥
-empty_or_run call left m empty run = let stops : length call.ended.run.stops ≡ 0 = rw empty.no_stops refl in
+empty_or_run : (call : Call) (left : Option (List ℕ)) (lim : Bounds) (m : Module) → IsEmpty call.ended.run
+    → IsRunOfInput left lim m call.ended.run → ⊥
+empty_or_run call left lim m empty run = let stops : length call.ended.run.stops ≡ 0 = rw empty.no_stops refl in
     absurd (omega (arith, run.run_of.sixteen_stops, stops))
 
-pub run_is_made : (call : Call) → AcceptedInputsAreNotRefused → Ends call → IsJob call.words jobs.Replay
-    → Held call.source.left (λ bytes. IsAccepted jobs.Replay bytes → ¬ ReadRose call.source → IsEmpty call.ended.run
-    → call.ended.status ≡ 6)
-run_is_made call law ends job bytes held accepted calm empty =
+pub run_is_made : (call : Call) → AcceptedInputsAreNotRefused → Ends call → (lim : Bounds)
+    → IsJob call.words (jobs.Replay lim)
+    → Held call.source.left (λ bytes. IsAccepted (jobs.Replay lim) bytes → ¬ ReadRose call.source
+    → IsEmpty call.ended.run → call.ended.status ≡ 6)
+run_is_made call law ends lim job bytes held accepted calm empty =
     by_ending call _
-    (λ x. absurd (no_fault call.words call.source.left (ReadRose call.source) x.fault jobs.Replay bytes law job held
-    accepted calm x.due))
-    (λ x. absurd (empty_or_run call call.source.left x.input_module empty x.run))
-    (λ x. absurd (no_text call job x)) (λ x. x.unwritten.0) ends
+    (λ x. absurd (no_fault call.words call.source.left (ReadRose call.source) x.fault (jobs.Replay lim) bytes law job
+    held accepted calm x.due))
+    (λ x. absurd (empty_or_run call call.source.left x.lim x.input_module empty x.run))
+    (λ x. absurd (no_text call lim job x)) (λ x. x.unwritten.0) ends
 
 pub complete : (call : Call) → AcceptedInputsAreNotRefused → Ends call → (job : Job) → IsJob call.words job
     → Held call.source.left (λ bytes. IsAccepted job bytes → ¬ ReadRose call.source → ¬ WriteRose call.sink

@@ -1,9 +1,9 @@
 -- How a call ends, and what that says of its status, its record and what the sink took.
-use Rattle.std.proofs.Common.{◌≡◌, ℕ, ◌⊎◌, inl, inr, List, Option, Some, Err, refl, sym, subst}
+use Rattle.std.proofs.Common.{◌≡◌, ℕ, ◌⊎◌, inl, inr, List, Option, Err, refl, sym, subst}
 use Rattle.std.specs.Prelude.{IsErrOf}
 use Rattle.ds_ast.specs.declared.module.Module.{Module}
-use Rattle.ds_small.specs.Module as small
-use Rattle.ds_stage.specs.Form.{small_of}
+use Rattle.ds_map.specs.Bounds.{Bounds}
+use Rattle.ds_form.specs.Form.{IsInForm}
 use Rattle.ds_io.specs.Source.{GivesAll}
 use Rattle.ds_core.specs.declared.record.Ended.{Ended}
 use Rattle.ds_report.specs.declared.fault.Fault.{Fault}
@@ -45,7 +45,8 @@ answered call x = inr (inr (inl x))
 
 out_of_memory : (call : Call) → Unwritten call.sink call.ended.status
     → IsEmpty call.ended.run
-    ⊎ (IsJob call.words Replay × (m : Module) × IsRunOfInput call.source.left m call.ended.run) → Ends call
+    ⊎ ((lim : Bounds) × IsJob call.words (Replay lim) × (m : Module)
+    × IsRunOfInput call.source.left lim m call.ended.run) → Ends call
 out_of_memory call unwritten run = inr (inr (inr (record { unwritten = unwritten; run = run })))
 
 -- a fault of the input is due where there is a job
@@ -92,19 +93,20 @@ of_input source m input =
       spelled = input.2;
     }
 
-run_of_input : (call : Call) (m : Module) (s : small.Module) → IsInputOf call.source m → small_of m ≡ Some s
-    → IsRunOfModule s call.ended.run → IsRunOfInput call.source.left m call.ended.run
-run_of_input call m s input form run =
-    record { of_input = of_input call.source m input; as_small = s; form = form; run_of = run }
+run_of_input : (call : Call) (lim : Bounds) (m : Module) → IsInputOf call.source m → IsInForm m
+    → IsRunOfModule lim m call.ended.run → IsRunOfInput call.source.left lim m call.ended.run
+run_of_input call lim m input form run =
+    record { of_input = of_input call.source m input; form = form; run_of = run }
 
-run_ends : (call : Call) (m : Module) (s : small.Module) → IsJob call.words Replay → IsInputOf call.source m
-    → small_of m ≡ Some s → RunEnds m s call.sink call.ended → Ends call
-run_ends call m s job input form (inl x) = out_of_memory call x.0 (inl x.1)
-run_ends call m s job input form (inr x) =
-    let run : IsRunOfInput call.source.left m call.ended.run = run_of_input call m s input form x.0 in
+run_ends : (call : Call) (lim : Bounds) (m : Module) → IsJob call.words (Replay lim) → IsInputOf call.source m
+    → IsInForm m → RunEnds lim m call.sink call.ended → Ends call
+run_ends call lim m job input form (inl x) = out_of_memory call x.0 (inl x.1)
+run_ends call lim m job input form (inr x) =
+    let run : IsRunOfInput call.source.left lim m call.ended.run = run_of_input call lim m input form x.0 in
     elim x.1 [
-      | inl unwritten ↦ out_of_memory call unwritten (inr (job, m, run))
+      | inl unwritten ↦ out_of_memory call unwritten (inr (lim, job, m, run))
       | inr y ↦ reported call (record {
+        lim = lim;
         job = job;
         input_module = m;
         run = run;
@@ -115,9 +117,10 @@ run_ends call m s job input form (inr x) =
       })
     ]
 
-pub replay_ends : (call : Call) → IsJob call.words Replay → ReplayEnds call.source call.sink call.ended → Ends call
-replay_ends call job (inl x) = stop_ends call Replay job x
-replay_ends call job (inr x) = run_ends call x.0 x.1 job x.2 x.3 x.4
+pub replay_ends : (call : Call) (lim : Bounds) → IsJob call.words (Replay lim)
+    → ReplayEnds lim call.source call.sink call.ended → Ends call
+replay_ends call lim job (inl x) = stop_ends call (Replay lim) job x
+replay_ends call lim job (inr x) = run_ends call lim x.0 job x.1 x.2 x.3
 
 -- how a job ends that writes this text of each module
 pub answer_ends : (call : Call) (job : Job) (text : Module → List ℕ) → ((m : Module) → IsTextOf job m (text m))
@@ -149,14 +152,13 @@ held_by : (source : Reading) (given : List ℕ) (P : List ℕ → Type 0) → Gi
 held_by source given P all is bytes e = subst P (held_bytes source.left source.left_after given bytes all e) is
 
 -- how the job ends that has this module
-pub module_ends : (source : Reading) (sink : Writing) (ended : Ended) (m : Module) → IsInputOf source m
-    → ModuleEnds m sink ended → ReplayEnds source sink ended
-module_ends source sink ended m input (inl x) =
+pub module_ends : (lim : Bounds) (source : Reading) (sink : Writing) (ended : Ended) (m : Module) → IsInputOf source m
+    → ModuleEnds lim m sink ended → ReplayEnds lim source sink ended
+module_ends lim source sink ended m input (inl x) =
     inl (inl (
       OtherForm,
       ((λ want. want), (tt, held_by source input.0 IsOtherForm input.1 (m, input.2, x.0))),
       (λ of. read_out source input.0 input.1),
       x.1,
     ))
-module_ends source sink ended m input (inr (inl x)) = inl (inr x)
-module_ends source sink ended m input (inr (inr x)) = inr (m, x.0, input, x.1, x.2)
+module_ends lim source sink ended m input (inr x) = inr (m, input, x.0, x.1)

@@ -1,8 +1,7 @@
 -- An input that is accepted is not refused.
-use Rattle.std.proofs.Common.{◌≡◌, ℕ, inl, inr, List, Option, Some, None, sym, ap, subst, ◌∙◌, arith}
+use Rattle.std.proofs.Common.{ℕ, inl, inr, List, sym, subst, arith}
 use Rattle.ds_ast.specs.declared.module.Module.{Module}
-use Rattle.ds_small.specs.Module as small
-use Rattle.ds_stage.specs.Form.{small_of}
+use Rattle.ds_form.specs.Form.{IsInForm}
 use Rattle.ds_grammar.specs.declared.fault.ParseFault.{ParseFault}
 use Rattle.ds_parse.specs.Laws.{TextsSpellOneModule, TextsAreNotRefused}
 use Rattle.ds_shape.specs.Accepted.{Accepted}
@@ -11,7 +10,7 @@ use Rattle.ds_check.specs.Laws.{AcceptedAreNotRefused}
 use Rattle.ds_report.specs.declared.fault.Fault.{Fault}
 use Rattle.ds_report.specs.declared.fault.Fault.TheVariants.{Usage, Read, TooLong, Parse, Shape, Check, OtherForm}
 use Rattle.ds_main.specs.declared.job.Job.TheVariants as jobs
-use Rattle.ds_main.specs.Input.{SpellsAccepted, SpellsSmall}
+use Rattle.ds_main.specs.Input.{SpellsAccepted, SpellsRun}
 use Rattle.ds_main.specs.Refusal.{IsTooLong, HasTextFault, HasModuleFault, SpellsFaulty, IsOtherForm}
 use Rattle.ds_main.specs.Refusal.{AcceptedInputsAreNotRefused}
 
@@ -34,11 +33,9 @@ module _ (one : TextsSpellOneModule) (texts : TextsAreNotRefused) (layouts : Lay
       no_fault layouts checks m fault accepted (subst (HasModuleFault fault) (sym (one bytes m n spells.1 other.1)) h)
 
   -- a module of the stage's form and one of another form are not the module of one text
-  other_form : (bytes : List ℕ) (s : small.Module) → SpellsSmall bytes s → IsOtherForm bytes → ⊥
-  other_form bytes s (m, spells, is) (n, other, none) =
-      let same = one bytes m n spells.0.1 other.0.1 in
-      let e : ◌≡◌ {A = Option small.Module} (Some s) None = sym is ∙ ap small_of same ∙ none in
-      absurd (cc e)
+  other_form : (bytes : List ℕ) (m : Module) → SpellsRun bytes m → IsOtherForm bytes → ⊥
+  other_form bytes m (spells, is) (n, other, none) =
+      none (subst IsInForm (one bytes m n spells.0.1 other.0.1) is)
 
   too_long : (bytes : List ℕ) (m : Module) → SpellsAccepted bytes m → IsTooLong bytes → ⊥
   too_long bytes m (spells, accepted) long = absurd (omega (arith, spells.0, long))
@@ -48,13 +45,13 @@ module _ (one : TextsSpellOneModule) (texts : TextsAreNotRefused) (layouts : Lay
   no_text_fault bytes m fault (spells, accepted) h = texts bytes m fault spells.1 h.1
 
   pub accepted_inputs_are_not_refused : AcceptedInputsAreNotRefused
-  accepted_inputs_are_not_refused jobs.Replay bytes (s, (m, spells, is)) (inl long) = too_long bytes m spells long
-  accepted_inputs_are_not_refused jobs.Replay bytes (s, (m, spells, is)) (inr (inl x)) =
+  accepted_inputs_are_not_refused (jobs.Replay lim) bytes (m, (spells, is)) (inl long) = too_long bytes m spells long
+  accepted_inputs_are_not_refused (jobs.Replay lim) bytes (m, (spells, is)) (inr (inl x)) =
       no_text_fault bytes m x.0 spells x.1
-  accepted_inputs_are_not_refused jobs.Replay bytes (s, (m, spells, is)) (inr (inr (inl x))) =
+  accepted_inputs_are_not_refused (jobs.Replay lim) bytes (m, (spells, is)) (inr (inr (inl x))) =
       no_other bytes m x.0 spells x.1
-  accepted_inputs_are_not_refused jobs.Replay bytes (s, (m, spells, is)) (inr (inr (inr x))) =
-      other_form bytes s (m, spells, is) x.1
+  accepted_inputs_are_not_refused (jobs.Replay lim) bytes (m, (spells, is)) (inr (inr (inr x))) =
+      other_form bytes m (spells, is) x.1
   accepted_inputs_are_not_refused jobs.Check bytes (m, spells) (inl long) = too_long bytes m spells long
   accepted_inputs_are_not_refused jobs.Check bytes (m, spells) (inr (inl x)) = no_text_fault bytes m x.0 spells x.1
   accepted_inputs_are_not_refused jobs.Check bytes (m, spells) (inr (inr (inl x))) = no_other bytes m x.0 spells x.1

@@ -1,57 +1,98 @@
 -- What was recorded is a run of the module.
-use Rattle.std.proofs.Common.{◌≡◌, ℕ, List, ◌∷◌, length, drop, replicate, Option, Some, None, ap, subst, arith}
+use Rattle.std.proofs.Common.{◌≡◌, ℕ, ◌≤◌, List, [], length, drop, replicate, Option, Some, None, ap, sym, subst}
+use Rattle.std.proofs.Common.{refl, arith}
 use Rattle.std.specs.Prelude.{IsSomeAnd}
+use Rattle.ds_ast.specs.declared.module.Module.{Module}
 use Rattle.ds_step.specs.declared.Step.{Step}
-use Rattle.ds_small.specs.Module.{Module}
-use Rattle.ds_map.specs.Bounds.{Bounds, IsInRange, default_limits}
-use Rattle.ds_plain.specs.declared.Stop.{Stop}
+use Rattle.ds_shape.specs.Accepted.{Accepted}
+use Rattle.ds_shape.specs.Laws.{WordsAreCounted}
+use Rattle.ds_shape.specs.Image.{image_of}
+use Rattle.ds_map.specs.Bounds.{Bounds, IsInRange}
+use Rattle.ds_plain.specs.declared.Cue.{Cue}
 use Rattle.ds_plain.specs.declared.Stop.TheVariants.{Idle}
+use Rattle.ds_plain.specs.Asking.{HasRows}
 use Rattle.ds_plain.specs.Behaviour.{Program}
-use Rattle.ds_plain.specs.Explained.{HasEnded, stop_in, IsRecord, IsLegalOrder, HasLegalOrder}
-use Rattle.ds_plain.specs.Small.{program_of}
+use Rattle.ds_plain.specs.Explained.{HasEnded, stop_in, trace_of, IsRecord, HasLegalOrder}
+use Rattle.ds_plain.specs.Turns.{IsScheduledOrder}
 use Rattle.ds_plain_laws.specs.Laws.{LegalRunsArePlain}
+use Rattle.ds_fuel_laws.specs.Laws.{FuelIsExact}
+use Rattle.ds_meaning.specs.Values.{global_address}
+use Rattle.ds_form.specs.Form.{IsInForm}
+use Rattle.ds_form.specs.Laws.{FormsAskRows}
+use Rattle.ds_safe_laws.specs.Laws.{HasMeaning, AcceptedMeans}
+use Rattle.ds_code.specs.declared.functions.CodeParts.{CodeParts}
+use Rattle.ds_code.specs.CodeProgram.{program_of}
+use Rattle.ds_code.specs.Lowering.{IsLowered}
 use Rattle.ds_core.specs.declared.record.RunRecord.{RunRecord}
-use Rattle.ds_main.specs.Run.{IsRunOfModule}
+use Rattle.ds_main.specs.Run.{IsRunOfModule, read_program}
 use Rattle.ds_main.specs.Ending.{Writing, Delivers}
 
--- a recorded order that is legal is some legal order
+-- a recorded order of a schedule is some legal order
 has_legal_order : (program : Program) (lim : Bounds) (traces : List (List Step)) (order : Option (List ℕ))
-    → IsSomeAnd order (IsLegalOrder program lim traces) → HasLegalOrder program lim traces
+    → IsSomeAnd order (IsScheduledOrder program lim [] 0 traces) → HasLegalOrder program lim traces
 has_legal_order program lim traces None legal = absurd legal
 has_legal_order program lim traces (Some order) legal = ∣ (legal.0, legal.2, legal.3) ∣₁
 
-default_in_range : IsInRange default_limits
-default_in_range = record {
-  some_page = omega arith;
-  pages = omega arith;
-  some_fuel = omega arith;
-  fuel = omega arith;
-  logs = omega arith;
-  hash = omega arith;
-}
+-- all that the code of a module of the form asks has a row
+pub code_asks_rows : FormsAskRows → (m : Module) (lim : Bounds) (code : CodeParts) → IsInForm m
+    → program_of lim code ≡ read_program lim m → HasRows (program_of lim code)
+code_asks_rows law m lim code form same = subst HasRows (sym same) (law m lim form)
 
--- behind main's stop all are idle
-idle_behind : (stops : List Stop) (stop : Stop) → stops ≡ stop ∷ replicate 15 Idle → drop 1 stops ≡ replicate 15 Idle
-idle_behind stops stop are = ap (λ (s : List Stop). drop 1 s) are
+-- the image of an accepted module has at most 4,096 words
+pub few_words : WordsAreCounted → (m : Module) (code : CodeParts) → Accepted m → IsLowered m code
+    → length code.image ≤ 4096
+few_words law m code accepted lowered =
+    let counted = law global_address m (length (image_of global_address m)) accepted.well_formed.layout in
+    let few = accepted.few_global_words (length (image_of global_address m)) (counted.1 refl) in
+    let same : length code.image ≡ length (image_of global_address m) = ap length lowered.image in
+    omega (arith, few, same)
 
-pub run_of_module : LegalRunsArePlain → (small : Module) (run : RunRecord)
-    → IsRecord (program_of small) default_limits run.stops run.traces
-    → IsSomeAnd run.order (IsLegalOrder (program_of small) default_limits run.traces)
+-- an accepted module has a meaning all along
+has_meaning : AcceptedMeans → (m : Module) → Accepted m → HasMeaning m
+has_meaning safe m accepted = λ noting lim thread function argument f answers at defined.
+    safe m noting lim accepted thread function argument f answers at defined
+
+module _ (law : LegalRunsArePlain) (fuel : FuelIsExact) (m : Module) (means : HasMeaning m) (lim : Bounds) (range : IsInRange lim) (run : RunRecord)
+    (recorded : IsRecord (read_program lim m) lim run.stops run.traces)
+    (order : IsSomeAnd run.order (IsScheduledOrder (read_program lim m) lim [] 0 run.traces))
+    (alone : IsSomeAnd run.order (λ order. order ≡ replicate (length order) 0))
+    (idle : drop 1 run.stops ≡ replicate 15 Idle)
+    (sixteen : length run.stops ≡ 16) (ended : HasEnded (stop_in run.stops 0)) where
+  run_of_read : IsRunOfModule lim m run
+  run_of_read = record {
+    sixteen_stops = sixteen;
+    main_ended = ended;
+    means = means;
+    explained = record {
+      recorded = recorded;
+      some_order = has_legal_order (read_program lim m) lim run.traces run.order order;
+      every_order = law (read_program lim m) lim run.stops run.traces range recorded;
+    };
+    order = order;
+    main_alone = alone;
+    others_idle = idle;
+    fuel = λ t lt ended. fuel (read_program lim m) lim t (trace_of run.traces t) (stop_in run.stops t)
+        (recorded.follows t lt) (sym (recorded.ends t lt)) ended;
+  }
+
+-- what was recorded of the code of a module is a run of the module
+pub run_of_module : LegalRunsArePlain → FuelIsExact → AcceptedMeans → (m : Module) (lim : Bounds) (code : CodeParts)
+    (cues : List Cue) (seed : ℕ) (run : RunRecord)
+    → Accepted m → program_of lim code ≡ read_program lim m → IsInRange lim → cues ≡ [] → seed ≡ 0
+    → IsRecord (program_of lim code) lim run.stops run.traces
+    → IsSomeAnd run.order (IsScheduledOrder (program_of lim code) lim cues seed run.traces)
     → IsSomeAnd run.order (λ order. order ≡ replicate (length order) 0)
-    → (main : Stop) → run.stops ≡ main ∷ replicate 15 Idle → length run.stops ≡ 16 → HasEnded (stop_in run.stops 0)
-    → IsRunOfModule small run
-run_of_module law small run recorded legal alone main stops sixteen ended = record {
-  sixteen_stops = sixteen;
-  main_ended = ended;
-  explained = record {
-    recorded = recorded;
-    some_order = has_legal_order (program_of small) default_limits run.traces run.order legal;
-    every_order = law (program_of small) default_limits run.stops run.traces default_in_range recorded;
-  };
-  order = legal;
-  main_alone = alone;
-  others_idle = idle_behind run.stops main stops;
-}
+    → drop 1 run.stops ≡ replicate 15 Idle → length run.stops ≡ 16 → HasEnded (stop_in run.stops 0)
+    → IsRunOfModule lim m run
+run_of_module law fuel safe m lim code cues seed run accepted same range none first recorded order alone idle sixteen ended =
+    let seeded = subst (λ (n : ℕ). IsSomeAnd run.order (IsScheduledOrder (program_of lim code) lim cues n run.traces))
+    first order in
+    let uncued = subst (λ (cs : List Cue).
+    IsSomeAnd run.order (IsScheduledOrder (program_of lim code) lim cs 0 run.traces)) none seeded in
+    run_of_read law fuel m (has_meaning safe m accepted) lim range run
+    (subst (λ (p : Program). IsRecord p lim run.stops run.traces) same recorded)
+    (subst (λ (p : Program). IsSomeAnd run.order (IsScheduledOrder p lim [] 0 run.traces)) same uncued)
+    alone idle sixteen ended
 
 -- the same status under another name
 pub delivers_as : (text : List ℕ) (done same : ℕ) (sink : Writing) (status : ℕ) → done ≡ same

@@ -5,6 +5,7 @@ use Rattle.ds_lex.specs.declared.fault.LexFault.TheVariants as lex
 use Rattle.ds_grammar.specs.declared.fault.ParseFault.TheVariants as parse
 use Rattle.ds_shape.specs.declared.fault.ShapeFault.TheVariants as shape
 use Rattle.ds_check.specs.declared.fault.TypeFault.TheVariants as check
+use Rattle.ds_map.specs.Bounds.{Bounds}
 use Rattle.ds_core.specs.declared.record.RunRecord.{RunRecord}
 use Rattle.ds_report.specs.declared.fault.Fault.{Fault}
 use Rattle.ds_report.specs.declared.fault.Fault.TheVariants.{Usage, Read, TooLong, Parse, Shape, Check, OtherForm}
@@ -72,6 +73,6 @@ IsOfModule OtherForm = Unit {0}
 abbrev pub IsDueText : List (List ℕ) → Option (List ℕ) → (read_rose : Type 0) → RunRecord → List ℕ → Type 0
 IsDueText words left read_rose run text =
     ((fault : Fault) × IsDue words left read_rose fault × IsEmpty run × (text ≡ fault_text fault))
-    ⊎ ((IsJob words Replay × (m : Module) × IsRunOfInput left m run
+    ⊎ (((lim : Bounds) × IsJob words (Replay lim) × (m : Module) × IsRunOfInput left lim m run
     × IsReport (function_names m) run.stops run.traces false text)
     ⊎ ((job : Job) × IsJob words job × (m : Module) × IsModuleOfInput left m × IsEmpty run × IsTextOf job m text))

@@ -1,9 +1,9 @@
 -- Helpers: how the private functions of a call end. No clause of a public call speaks of them.
-use Rattle.std.specs.Prelude.{◌≡◌, ℕ, ◌⊎◌, List, [], Option, Some, None, false}
+use Rattle.std.specs.Prelude.{◌≡◌, ℕ, ◌⊎◌, List, [], Option, false}
 use Rattle.std.specs.Option.{option_map}
 use Rattle.ds_ast.specs.declared.module.Module.{Module}
-use Rattle.ds_small.specs.Module as small
-use Rattle.ds_stage.specs.Form.{small_of}
+use Rattle.ds_map.specs.Bounds.{Bounds}
+use Rattle.ds_form.specs.Form.{IsInForm}
 use Rattle.ds_io.specs.Counts.{Rose}
 use Rattle.ds_io.specs.Source.{GivesAll}
 use Rattle.ds_io.specs.Sink.{Takes, TakesFront}
@@ -90,9 +90,10 @@ pub record Refused (call : Call) : Type 0 where
 
 -- the accepted module that the input spells was run, and the report was delivered
 pub record Reported (call : Call) : Type 0 where
-  pub job : IsJob call.words Replay
+  pub lim : Bounds
+  pub job : IsJob call.words (Replay lim)
   pub input_module : Module
-  pub run : IsRunOfInput call.source.left input_module call.ended.run
+  pub run : IsRunOfInput call.source.left lim input_module call.ended.run
   pub read : IsReadOut call.source
   pub text : List ℕ
   pub report : IsReport (function_names input_module) call.ended.run.stops call.ended.run.traces false text
@@ -114,7 +115,8 @@ pub record Answered (call : Call) : Type 0 where
 pub record OutOfMemory (call : Call) : Type 0 where
   pub unwritten : Unwritten call.sink call.ended.status
   pub run : IsEmpty call.ended.run
-      ⊎ (IsJob call.words Replay × (m : Module) × IsRunOfInput call.source.left m call.ended.run)
+      ⊎ ((lim : Bounds) × IsJob call.words (Replay lim) × (m : Module)
+      × IsRunOfInput call.source.left lim m call.ended.run)
 
 -- every call ends so
 abbrev pub Ends : Call → Type 0
@@ -139,20 +141,18 @@ IsSpelledBy source m = (bytes : List ℕ) × GivesAll source.left bytes source.l
 abbrev pub IsInputOf : Reading → Module → Type 0
 IsInputOf source m = (bytes : List ℕ) × GivesAll source.left bytes source.left_after × SpellsAccepted bytes m
 
--- how a run of the module, as this small one, ends: memory ran out before it, behind it, or its report was delivered
-abbrev pub RunEnds : Module → small.Module → Writing → Ended → Type 0
-RunEnds m s sink ended =
+-- how a run of the module ends: memory ran out before it, behind it, or its report was delivered
+abbrev pub RunEnds : Bounds → Module → Writing → Ended → Type 0
+RunEnds lim m sink ended =
     MemoryEnds sink ended
-    ⊎ (IsRunOfModule s ended.run × (Unwritten sink ended.status
+    ⊎ (IsRunOfModule lim m ended.run × (Unwritten sink ended.status
     ⊎ ((text : List ℕ) × IsReport (function_names m) ended.run.stops ended.run.traces false text
     × Delivers text (run_status ended.run.stops) sink ended.status)))
 
--- how the job `replay` ends once it has its module: the module has another form, memory ran out, or the module was run
-abbrev pub ModuleEnds : Module → Writing → Ended → Type 0
-ModuleEnds m sink ended =
-    ((small_of m ≡ None) × FaultEnds OtherForm sink ended)
-    ⊎ (MemoryEnds sink ended
-    ⊎ ((s : small.Module) × (small_of m ≡ Some s) × RunEnds m s sink ended))
+-- how the job `replay` ends once it has its module: the module has another form, or it was run
+abbrev pub ModuleEnds : Bounds → Module → Writing → Ended → Type 0
+ModuleEnds lim m sink ended =
+    ((IsInForm m → ⊥) × FaultEnds OtherForm sink ended) ⊎ (IsInForm m × RunEnds lim m sink ended)
 
 -- the call ends by a fault of the input, or memory ran out before anything was run
 abbrev pub Stops : Job → Reading → Writing → Ended → Type 0
@@ -162,10 +162,10 @@ Stops job source sink ended =
     ⊎ MemoryEnds sink ended
 
 -- how the job `replay` ends
-abbrev pub ReplayEnds : Reading → Writing → Ended → Type 0
-ReplayEnds source sink ended =
-    Stops Replay source sink ended
-    ⊎ ((m : Module) × (s : small.Module) × IsInputOf source m × (small_of m ≡ Some s) × RunEnds m s sink ended)
+abbrev pub ReplayEnds : Bounds → Reading → Writing → Ended → Type 0
+ReplayEnds lim source sink ended =
+    Stops (Replay lim) source sink ended
+    ⊎ ((m : Module) × IsInputOf source m × IsInForm m × RunEnds lim m sink ended)
 
 -- how a job that runs nothing ends, which writes this text of each module
 abbrev pub AnswerEnds : Job → (Module → List ℕ) → Reading → Writing → Ended → Type 0

@@ -3,10 +3,9 @@ use Rattle.std.specs.Prelude.{◌≡◌, ℕ, ◌≤◌, List, length, map, Opti
 use Rattle.ds_ast.specs.declared.name.Name.{Name}
 use Rattle.ds_ast.specs.declared.module.Module.{Module}
 use Rattle.ds_ast.specs.declared.module.Function.{Function}
-use Rattle.ds_small.specs.Module as small
-use Rattle.ds_stage.specs.Form.{small_of}
 use Rattle.ds_grammar.specs.Functions.{Text}
 use Rattle.ds_shape.specs.Accepted.{Accepted}
+use Rattle.ds_form.specs.Form.{IsInForm}
 use Rattle.ds_main.specs.declared.job.Job.{Job}
 use Rattle.ds_main.specs.declared.job.Job.TheVariants as jobs
 
@@ -36,12 +35,12 @@ pub record IsModuleOfInput (left : Option (List ℕ)) (m : Module) : Type 0 wher
 abbrev pub function_names : Module → List Name
 function_names m = map (λ (f : Function). f.name) m.functions
 
--- the bytes spell an accepted module of the form that this stage runs, which is this small one
-abbrev pub SpellsSmall : List ℕ → small.Module → Type 0
-SpellsSmall bytes s = (m : Module) × SpellsAccepted bytes m × (small_of m ≡ Some s)
+-- the bytes spell this accepted module, and it has the form that this stage runs
+abbrev pub SpellsRun : List ℕ → Module → Type 0
+SpellsRun bytes m = SpellsAccepted bytes m × IsInForm m
 
 -- the input is accepted for the job
 abbrev pub IsAccepted : Job → List ℕ → Type 0
-IsAccepted jobs.Replay bytes = (s : small.Module) × SpellsSmall bytes s
+IsAccepted (jobs.Replay lim) bytes = (m : Module) × SpellsRun bytes m
 IsAccepted jobs.Check bytes = (m : Module) × SpellsAccepted bytes m
 IsAccepted jobs.Instrument bytes = (m : Module) × SpellsAccepted bytes m

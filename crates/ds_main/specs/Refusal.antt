@@ -1,7 +1,7 @@
 -- Which inputs are refused, and for what.
-use Rattle.std.specs.Prelude.{◌≡◌, ℕ, ◌<◌, ◌≤◌, ◌⊎◌, List, length, None}
+use Rattle.std.specs.Prelude.{◌≡◌, ℕ, ◌<◌, ◌≤◌, ◌⊎◌, List, length}
 use Rattle.ds_ast.specs.declared.module.Module.{Module}
-use Rattle.ds_stage.specs.Form.{small_of}
+use Rattle.ds_form.specs.Form.{IsInForm}
 use Rattle.ds_grammar.specs.declared.fault.ParseFault.{ParseFault}
 use Rattle.ds_parse.specs.Faults.{HasParseFault}
 use Rattle.ds_shape.specs.Accepted.{HasLayout}
@@ -37,7 +37,7 @@ SpellsFaulty fault bytes = (m : Module) × Spells bytes m × HasModuleFault faul
 
 -- the input spells an accepted module that is not of the form that this stage runs
 abbrev pub IsOtherForm : List ℕ → Type 0
-IsOtherForm bytes = (m : Module) × SpellsAccepted bytes m × (small_of m ≡ None)
+IsOtherForm bytes = (m : Module) × SpellsAccepted bytes m × (IsInForm m → ⊥)
 
 -- the input is refused for the job
 abbrev pub IsRefused : Job → List ℕ → Type 0

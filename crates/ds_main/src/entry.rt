@@ -5,6 +5,7 @@ ghost use Rattle.std.specs.Option.{option_map};
 ghost use Rattle.ds_ast.specs.declared.module.Module.{Module};
 ghost use Rattle.ds_io.specs.Counts.{Rose};
 ghost use Rattle.ds_io.specs.Sink.{Takes, TakesFront};
+ghost use Rattle.ds_map.specs.Bounds.{Bounds};
 ghost use Rattle.ds_print.specs.Canonical.{canon};
 ghost use Rattle.ds_report.specs.declared.fault.Fault.{Fault};
 ghost use Rattle.ds_report.specs.Fault.{fault_text};
@@ -50,7 +51,7 @@ fn answer<S: Source, K: Sink>(
 {
     match read_words(words) {
         Ok(job) => match job {
-            Job::Replay => replay(alloc, source, sink),
+            Job::Replay { limits } => replay(alloc, &limits, source, sink),
             Job::Check => check(alloc, source, sink),
             Job::Instrument => instrument(alloc, source, sink),
         },
@@ -60,10 +61,12 @@ fn answer<S: Source, K: Sink>(
 
 /// Does the job that its words ask for, and tells by its result how that went.
 ///
-/// All three jobs read the source to its end and take its module only where that is accepted: it keeps all rules.
+/// All three jobs read the source to its end, unless it fails or holds too much, and take its module only where that
+/// is accepted: it keeps all rules.
 /// `check` writes that to the sink, with how many functions the module defines and how many instructions they have.
 /// `instrument` writes the canonical text of the module. `replay` runs it, where it has the form that this stage runs,
-/// and writes the report of the run. No thread is started, and no pace is called.
+/// with at most so many units as `--fuel` says, and writes the report of the run. No thread is started, and no pace is
+/// called.
 ///
 /// The status is 0 where the job was done; 9, 7, 3 or 8 where it was and main ran out of fuel, a thread met a full
 /// table, a thread trapped, or another thread ran out of fuel, of which the first decides; 2 where no job has these
@@ -80,21 +83,21 @@ pub fn dangsan_main<R: Threads + Sync, S: Source, K: Sink, P: Pace>(
 ) -> Ended
     // The main theorem. Where the record is not empty, the input spells an accepted module of the stage's form, at
     // least one order of the recorded steps is legal, and every legal order is, without log steps, a run of the plain
-    // machine on it. The recorded order is one of these, and every step in it is main's: the other 15 threads stand
-    // idle.
-    ensures headline { IsEmpty result.run
-        ⊎ (IsJob (texts words.now) Job.Replay × (m : Module) × IsRunOfInput (S.left source.old) m result.run) }
+    // machine on that module. The recorded order is one of these, and that of the schedule. Every step in it is main's:
+    // the other 15 threads stand idle.
+    ensures headline { IsEmpty result.run ⊎ ((lim : Bounds) × IsJob (texts words.now) (Job.Replay lim)
+        × (m : Module) × IsRunOfInput (S.left source.old) lim m result.run) }
     // With status 0, 3, 7, 8 and 9 of `replay` there is a run, the sink took its whole report, by the names of the
     // functions of the module that the input spells, and the status is the one that the stops give. The report is that
     // of the plain machine's run, in whichever legal order of the recorded steps.
-    ensures ran { IsJob (texts words.now) Job.Replay → IsRunStatus result.status
-        → (m : Module) × IsRunOfInput (S.left source.old) m result.run }
-    ensures reported { IsJob (texts words.now) Job.Replay → IsRunStatus result.status
-        → (m : Module) × (run : IsRunOfInput (S.left source.old) m result.run)
+    ensures ran { (lim : Bounds) → IsJob (texts words.now) (Job.Replay lim) → IsRunStatus result.status
+        → (m : Module) × IsRunOfInput (S.left source.old) lim m result.run }
+    ensures reported { (lim : Bounds) → IsJob (texts words.now) (Job.Replay lim) → IsRunStatus result.status
+        → (m : Module) × IsRunOfInput (S.left source.old) lim m result.run
         × (text : List ℕ) × IsReport (function_names m) result.run.stops result.run.traces false text
-        × IsReportOfEachOrder (function_names m) run.as_small result.run text
+        × IsReportOfEachOrder lim m result.run text
         × Takes (K.taken sink.old) text (K.taken sink.new) }
-    ensures run_status { IsJob (texts words.now) Job.Replay → IsRunStatus result.status
+    ensures run_status { (lim : Bounds) → IsJob (texts words.now) (Job.Replay lim) → IsRunStatus result.status
         → result.status ≡ run_status result.run.stops }
     // With status 0 of `check` and `instrument` the input spells an accepted module, and the sink took the whole text
     // due. 3, 7, 8 and 9 are of `replay` alone.
@@ -104,7 +107,8 @@ pub fn dangsan_main<R: Threads + Sync, S: Source, K: Sink, P: Pace>(
     ensures instrumented { IsJob (texts words.now) Job.Instrument → result.status ≡ 0
         → (m : Module) × IsModuleOfInput (S.left source.old) m
         × Takes (K.taken sink.old) (canon m) (K.taken sink.new) }
-    ensures of_replay { IsRunStatus result.status → ¬ (result.status ≡ 0) → IsJob (texts words.now) Job.Replay }
+    ensures of_replay { IsRunStatus result.status → ¬ (result.status ≡ 0)
+        → (lim : Bounds) × IsJob (texts words.now) (Job.Replay lim) }
     // With 0, 3, 7, 8 and 9 the source was read to its end.
     ensures read_out { IsRunStatus result.status → S.left source.new ≡ option_map (λ _. []) (S.left source.old) }
     // 2: exactly where no job has these words. 4: only where the source failed.
@@ -136,8 +140,8 @@ pub fn dangsan_main<R: Threads + Sync, S: Source, K: Sink, P: Pace>(
     ensures out_of_memory { result.status ≡ 6 → K.taken sink.new ≡ K.taken sink.old }
     ensures statuses { IsStatus result.status }
     // A module that is accepted for `replay` is run, unless the source failed or memory ran out.
-    ensures run_is_made { IsJob (texts words.now) Job.Replay
-        → Held (S.left source.old) (λ bytes. IsAccepted Job.Replay bytes →
+    ensures run_is_made { (lim : Bounds) → IsJob (texts words.now) (Job.Replay lim)
+        → Held (S.left source.old) (λ bytes. IsAccepted (Job.Replay lim) bytes →
         ¬ Rose (S.faults source.old) (S.faults source.new) → IsEmpty result.run → result.status ≡ 6) }
     // Completeness: where moreover the sink did not fail, the job is done.
     ensures complete { (job : Job) → IsJob (texts words.now) job

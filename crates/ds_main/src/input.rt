@@ -39,7 +39,7 @@ fn read_bytes<S: Source>(alloc: Global, source: &mut S) -> Result<Bytes, NoModul
 }
 
 /// The module that the input spells, which is read to its end.
-fn read_module<S: Source>(alloc: Global, source: &mut S) -> Result<Module, NoModule>
+pub fn read_module<S: Source>(alloc: Global, source: &mut S) -> Result<Module, NoModule>
     ensures spelled { IfOk result (λ m. IsSpelledBy (reading S.left S.faults source.old source.new) m) }
     ensures bounds { IfOk result Bounds }
     ensures none { IfErr result (λ why. Explains (reading S.left S.faults source.old source.new) why) }

@@ -1,10 +1,12 @@
 //! Runs a module and reports the run.
 
 ghost use Rattle.std.specs.Prelude.{◌≡◌, false, length, IfOk};
-ghost use Rattle.ds_small.specs.Module.{IsWellFormed};
+ghost use Rattle.ds_shape.specs.Accepted.{Accepted};
 ghost use Rattle.ds_plain.specs.Explained.{HasEnded, stop_in};
+ghost use Rattle.ds_form.specs.Form.{IsInForm};
 ghost use Rattle.ds_report.specs.Report.{IsReport};
 ghost use Rattle.ds_main.specs.Input.{function_names};
+ghost use Rattle.ds_main.specs.Run.{IsRunOfModule};
 ghost use Rattle.ds_main.specs.Ending.{writing, RunEnds};
 
 use crate::accept::names_of;
@@ -12,12 +14,44 @@ use crate::deliver::{OUT_OF_MEMORY, deliver};
 use crate::refuse::out_of_memory;
 use crate::status::status_by;
 use ds_ast::Module;
-use ds_core::{Ended, RunRecord, replay_small};
+use ds_core::{Ended, RunRecord, Schedule, replay};
+use ds_form::forms_ask_rows;
+use ds_fuel_laws::fuel_is_exact;
 use ds_io::Sink;
+use ds_lower::lower;
+use ds_map::Limits;
 use ds_plain_laws::legal_runs_are_plain;
 use ds_report::render;
-use ds_small::Small;
+use ds_safe_laws::accepted_means;
+use ds_shape::{Shapes, words_are_counted};
 use std::alloc::{AllocError, Global};
+
+/// The seed of the schedule.
+const SEED: u64 = 0;
+
+/// Lowers a module and runs it.
+fn run<'a>(
+    alloc: Global,
+    limits: &Limits,
+    module: &'a Module,
+    shapes: &Shapes<'a>,
+) -> Result<RunRecord, AllocError>
+    requires accepted { Accepted «module».now }
+    requires form { IsInForm «module».now }
+    requires same { shapes.now ≡ «module».now.structs }
+    ensures { IfOk result (IsRunOfModule limits.now «module».now) }
+{
+    legal_runs_are_plain();
+    fuel_is_exact();
+    accepted_means();
+    forms_ask_rows();
+    words_are_counted();
+    let _fuel = limits.fuel();
+    let code = lower(alloc, module, shapes)?;
+    let schedule = Schedule::seeded(alloc, SEED);
+    let record = replay(alloc, &code, limits, &schedule)?;
+    Ok(record)
+}
 
 /// The report of a run of a module.
 fn report_of(alloc: Global, module: &Module, run: &RunRecord) -> Result<Vec<u8>, AllocError>
@@ -29,23 +63,30 @@ fn report_of(alloc: Global, module: &Module, run: &RunRecord) -> Result<Vec<u8>,
     render(alloc, names.as_slice(), run, false)
 }
 
-/// Runs a module, as the small one that it is, and writes the report of the run.
-pub fn run_and_report<K: Sink>(alloc: Global, sink: &mut K, module: &Module, small: &Small) -> Ended
-    requires { IsWellFormed small.now }
-    ensures { RunEnds «module».now small.now (writing K.taken K.faults sink.old sink.new) result }
+/// Runs an accepted module of this stage's form with these sizes and offsets, and writes the report of the run.
+pub fn run_and_report<'a, K: Sink>(
+    alloc: Global,
+    limits: &Limits,
+    sink: &mut K,
+    module: &'a Module,
+    shapes: &Shapes<'a>,
+) -> Ended
+    requires accepted { Accepted «module».now }
+    requires form { IsInForm «module».now }
+    requires same { shapes.now ≡ «module».now.structs }
+    ensures { RunEnds limits.now «module».now (writing K.taken K.faults sink.old sink.new) result }
 {
-    legal_runs_are_plain();
-    let Ok(run) = replay_small(alloc, small) else {
+    let Ok(record) = run(alloc, limits, module, shapes) else {
         return out_of_memory(alloc);
     };
-    match report_of(alloc, module, &run) {
+    match report_of(alloc, module, &record) {
         Ok(text) => Ended {
-            status: deliver(sink, text.as_slice(), status_by(run.stops.as_slice())),
-            run,
+            status: deliver(sink, text.as_slice(), status_by(record.stops.as_slice())),
+            run: record,
         },
         Err(_) => Ended {
             status: OUT_OF_MEMORY,
-            run,
+            run: record,
         },
     }
 }

@@ -9,4 +9,3 @@ pub mod Explained
 pub mod Turns
 pub mod Stands
 pub mod Asking
-pub mod Small

@@ -1,4 +1,0 @@
-pub mod Defined
-pub mod Loops
-pub mod Found
-pub mod WellFormed
