@@ -1,7 +1,7 @@
 #!/usr/bin/env bash
 # Times `dangsan replay` on programs of examples/programs/ at sizes that need nearly 2,000,000 units, with a fuel of 250,000, 500,000, 1,000,000 and
 # 2,000,000 units, beside the interpreter of LLVM where lli is at hand. Prints time (the best of three runs), the peak of memory, and units a second,
-# from which the time of a run of two units is taken off; a unit is an instruction, load, store or print. Doubling the fuel should at most take 2.3 times
+# from which the time of a run of two units is taken off; a unit is an instruction, load, store or print. Doubling the fuel should at most take 2.2 times
 # the time, and the most 2 s. The script fails where a status or an output is another one. It needs clang-16, which makes the modules.
 . "$(dirname "$0")/measure.sh"
 command -v clang-16 >/dev/null || {
