@@ -131,36 +131,39 @@ comes code old new rest s e x =
     record {
       arrives = e ∙ ap (λ (a : Arrival). at_arrival old a s.machine) x.there
           ∙ ap (at_arrival old (arrival_of old rest)) (sym machine);
-      stands = stands_at old.lim rest old.place old.units (rest []);
+      stands = λ cursors. stands_at old.lim cursors rest old.place old.units (rest []);
       serves = λ f. subst (λ (q : Machine). Serves (runs code old) q rest) (sym machine) (x.serves f);
     }
   where
-    out : (lim : Bounds) (rest : Behaviour)
-        → standing lim rest lim.fuel true (position_of (requests.Stop Fuel))
-        ≡ record { rest = rest; position = StoreEnded Fuel; units = lim.fuel; began = true }
-    out lim rest = by_test (nat_lt lim.fuel lim.fuel) refl
+    out : (lim : Bounds) (cursors : List ℕ) (rest : Behaviour)
+        → standing lim cursors rest lim.fuel true (position_of lim cursors (requests.Stop Fuel))
+        ≡ record { rest = rest; position = StoreEnded Fuel; units = lim.fuel; began = true; cursors = cursors }
+    out lim cursors rest = by_test (nat_lt lim.fuel lim.fuel) refl
       where
         by_test : (t : Bool) → nat_lt lim.fuel lim.fuel ≡ t
-            → let a : Thread = record { rest = rest; position = StoreEnded Fuel; units = lim.fuel; began = true } in
-            (if t then record { rest = rest; position = NoRow; units = lim.fuel; began = true } else a) ≡ a
+            → let a : Thread =
+            record { rest = rest; position = StoreEnded Fuel; units = lim.fuel; began = true; cursors = cursors } in
+            (if t
+            then record { rest = rest; position = NoRow; units = lim.fuel; began = true; cursors = cursors } else a)
+            ≡ a
         by_test true e = absurd (grind (arith, nat_tests))
         by_test false e = refl
 
-    stands_at : (lim : Bounds) (rest : Behaviour) (place : Place) (units : ℕ) (asked : Asked)
-        → standing lim rest (arrival lim.fuel place units asked).units true
-        (position_of (arrival lim.fuel place units asked).want)
-        ≡ arriving lim rest units asked
-    stands_at lim rest place units Silent = out lim rest
-    stands_at lim rest place units (Asks n there request) = by_test (nat_le (units + n) lim.fuel)
+    stands_at : (lim : Bounds) (cursors : List ℕ) (rest : Behaviour) (place : Place) (units : ℕ) (asked : Asked)
+        → standing lim cursors rest (arrival lim.fuel place units asked).units true
+        (position_of lim cursors (arrival lim.fuel place units asked).want)
+        ≡ arriving lim cursors rest units asked
+    stands_at lim cursors rest place units Silent = out lim cursors rest
+    stands_at lim cursors rest place units (Asks n there request) = by_test (nat_le (units + n) lim.fuel)
       where
         by_test : (t : Bool)
             → let a : Arrival =
             if t then record { want = request; place = there; units = units + n } else out_of_fuel lim.fuel place in
-            standing lim rest a.units true (position_of a.want)
-            ≡ (if t then standing lim rest (units + n) true (position_of request)
-            else record { rest = rest; position = StoreEnded Fuel; units = lim.fuel; began = true })
+            standing lim cursors rest a.units true (position_of lim cursors a.want)
+            ≡ (if t then standing lim cursors rest (units + n) true (position_of lim cursors request)
+            else record { rest = rest; position = StoreEnded Fuel; units = lim.fuel; began = true; cursors = cursors })
         by_test true = refl
-        by_test false = out lim rest
+        by_test false = out lim cursors rest
 
 pub answered_comes : (code : CodeParts) (old new : ThreadState) (value : ℕ) → value < 2 ^ 64
     → old.units ≤ old.lim.fuel

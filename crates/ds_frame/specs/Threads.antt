@@ -108,8 +108,10 @@ Serves r q rest = (answer : ℕ) (more : List ℕ)
 pub record Comes (code : CodeParts) (old new : ThreadState) (rest : Behaviour) : Type 0 where
   -- it wants what is asked, at its place, and has spent what that costs
   pub arrives : new ≡ at_arrival old (arrival_of old rest) new.machine
-  -- that is where a thread of the step table comes that behaves so
-  pub stands : standing old.lim rest (arrival_of old rest).units true (position_of (arrival_of old rest).want)
-      ≡ going_on old.lim old.units rest
+  -- that is where a thread of the step table comes that behaves so, wherever it looks for blocks
+  pub stands : (cursors : List ℕ)
+      → standing old.lim cursors rest (arrival_of old rest).units true
+      (position_of old.lim cursors (arrival_of old rest).want)
+      ≡ going_on old.lim cursors old.units rest
   -- once it is answered it goes on as the behaviour says
   pub serves : is_stop (arrival_of old rest).want ≡ false → Serves (runs code old) new.machine rest

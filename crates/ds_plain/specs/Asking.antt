@@ -5,42 +5,42 @@ use Rattle.ds_map.specs.Regions.{program_words}
 use Rattle.ds_plain.specs.declared.AccessAt.{AccessAt}
 use Rattle.ds_plain.specs.declared.AccessAt.TheVariants.{LoadWord, StoreWord}
 use Rattle.ds_plain.specs.declared.Position.{Position}
-use Rattle.ds_plain.specs.declared.Position.TheVariants.{Start, Access, DrawPrint, StoreEnded, Over, NoRow}
+use Rattle.ds_plain.specs.declared.Position.TheVariants.{Start, Access, Malloc, Free, DrawPrint, StoreEnded, Over, NoRow}
 use Rattle.ds_plain.specs.Behaviour.{Asked, Asks, Silent, Behaviour, Program}
 use Rattle.ds_plain.specs.Table.{position_of, is_over}
+use Rattle.ds_plain.specs.Reached.{IsAllocAt, AreCursors, IsFreeAt}
 
--- what is asked has a row; a thread that asks nothing ends for want of fuel
-abbrev pub has_row : Asked → Bool
-has_row (Asks begun place request) = not (is_over (position_of request))
-has_row Silent = true
+-- what is asked has a row, wherever the thread looks for blocks; a thread that asks nothing ends for want of fuel
+abbrev pub has_row : Bounds → (cursors : List ℕ) → Asked → Bool
+has_row lim cursors (Asks begun place request) = not (is_over (position_of lim cursors request))
+has_row lim cursors Silent = true
 
 -- whatever the thread is told, what it asks has a row
-abbrev pub AsksRows : Behaviour → Type 0
-AsksRows rest = (answers : List ℕ) → has_row (rest answers) ≡ true
+abbrev pub AsksRows : Bounds → Behaviour → Type 0
+AsksRows lim rest = (cursors answers : List ℕ) → has_row lim cursors (rest answers) ≡ true
 
 -- so does each thread of the program, on whatever function it begins
-abbrev pub HasRows : Program → Type 0
-HasRows program = (thread function argument : ℕ) → AsksRows (program.behaves thread function argument)
+abbrev pub HasRows : Bounds → Program → Type 0
+HasRows lim program = (thread function argument : ℕ) → AsksRows lim (program.behaves thread function argument)
 
 -- the location of an access
 abbrev pub loc_of : AccessAt → ℕ
 loc_of (LoadWord loc) = loc
 loc_of (StoreWord loc value) = loc
 
--- the location that the position works on is one of the program's words
+-- the position is one that a thread reaches: it works on words that are there
 abbrev pub IsWithin : Bounds → Position → Type 0
 IsWithin lim (Start at) = Unit {0}
 IsWithin lim (Access at) = loc_of at < program_words lim
+IsWithin lim (Malloc at) = IsAllocAt lim at
+IsWithin lim (Free at) = IsFreeAt lim at
 IsWithin lim (DrawPrint value) = Unit {0}
 IsWithin lim (StoreEnded stop) = Unit {0}
 IsWithin lim (Over stop) = Unit {0}
 IsWithin lim NoRow = Unit {0}
 
--- what is asked works on one of the program's words
+-- what is asked works on words that are there, wherever the thread looks for blocks
 abbrev pub IsAskedWithin : Bounds → Asked → Type 0
-IsAskedWithin lim (Asks begun place request) = IsWithin lim (position_of request)
+IsAskedWithin lim (Asks begun place request) =
+    (cursors : List ℕ) → AreCursors lim cursors → IsWithin lim (position_of lim cursors request)
 IsAskedWithin lim Silent = Unit {0}
-
--- whatever the thread is told, it asks only for the program's words
-abbrev pub AsksWithin : Bounds → Behaviour → Type 0
-AsksWithin lim rest = (answers : List ℕ) → IsAskedWithin lim (rest answers)

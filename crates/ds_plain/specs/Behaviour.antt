@@ -11,6 +11,11 @@ pub data Asked : Type 0 where
   Asks : (begun : ℕ) → Place → Request → Asked
   Silent : Asked
 
+-- where what is asked stands in the text
+abbrev pub place_in_text : Asked → Place
+place_in_text (Asks begun place request) = place
+place_in_text Silent = record { function = 0; instruction = 0 }
+
 -- what a thread asks after these answers, the oldest first
 abbrev pub Behaviour : Type 0
 Behaviour = List ℕ → Asked

@@ -2,10 +2,13 @@ pub mod Behaviour
 pub mod Parts
 pub mod State
 pub mod Plain
+pub mod Searching
+pub mod Freeing
 pub mod Table
 pub mod Thread
 pub mod History
 pub mod Explained
 pub mod Turns
 pub mod Stands
+pub mod Reached
 pub mod Asking

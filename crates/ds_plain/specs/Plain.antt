@@ -1,6 +1,6 @@
 -- The plain machine: which event a thread may make in a state, and what the state is afterwards. A run of it is a list
 -- of events, each with the thread that makes it.
-use Rattle.std.specs.Prelude.{◌≡◌, ℕ, suc, ◌+◌, ◌<◌, ◌≤◌, ◌⊎◌, Bool, true, false, not, ◌&&◌, ◌==◌, if◌then◌else◌}
+use Rattle.std.specs.Prelude.{◌≡◌, ℕ, suc, ◌<◌, ◌≤◌, ◌⊎◌, Bool, true, false, not, ◌&&◌, ◌==◌, if◌then◌else◌}
 use Rattle.std.specs.Prelude.{List, [], ◌∷◌, ◌++◌, length, map, Contains, slice_index, slice_set, Option, Some, None}
 use Rattle.std.specs.Prelude.{option_map}
 use Rattle.std.specs.List.{filter}
@@ -22,9 +22,9 @@ use Rattle.ds_plain.specs.declared.TrapKind.{TrapKind}
 use Rattle.ds_plain.specs.declared.TrapKind.TheVariants.{BadJoin, BadFree, DoubleFree}
 use Rattle.ds_plain.specs.declared.Request.{Request}
 use Rattle.ds_plain.specs.declared.Request.TheVariants as requests
-use Rattle.ds_plain.specs.Behaviour.{Asked, Asks, Silent, told}
+use Rattle.ds_plain.specs.Behaviour.{Asked, Asks, Silent, place_in_text, told}
 use Rattle.ds_plain.specs.Parts.{is_whole, part, with_part, combined}
-use Rattle.ds_plain.specs.State.{Use, Free, Live, Freeing, Block, block_in, block_word, Note, Doing, Phase, NotGiven, Closed}
+use Rattle.ds_plain.specs.State.{Use, Free, Live, Freeing, block_in, block_word, Note, Doing, Phase, NotGiven, Closed}
 use Rattle.ds_plain.specs.State.{Ready, Going, Stopped, State, Setting, come_to, untouched, replaced}
 
 -- WHAT A THREAD ASKS
@@ -352,10 +352,6 @@ trap_of lim s (Some (requests.Print value)) = None
 trap_of lim s (Some (requests.Spawn loc function arg)) = None
 trap_of lim s (Some (requests.Join number)) = Some (BadJoin number)
 trap_of lim s (Some (requests.Stop stop)) = None
-
-abbrev pub place_in_text : Asked → Place
-place_in_text (Asks begun place request) = place
-place_in_text Silent = record { function = 0; instruction = 0 }
 
 -- where the request at hand of a thread that runs stands in the text
 abbrev pub place_of_phase : Phase → Place

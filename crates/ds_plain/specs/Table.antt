@@ -1,6 +1,8 @@
 -- The step table: for each position of a thread its operation, its row, and what an answer means.
-use Rattle.std.specs.Prelude.{ℕ, ◌+◌, Bool, true, false, ◌==◌, ◌&&◌, if◌then◌else◌}
+use Rattle.std.specs.Prelude.{ℕ, ◌+◌, Bool, true, false, ◌==◌, ◌&&◌, if◌then◌else◌, List, Option, Some, None}
+use Rattle.std.specs.Prelude.{slice_index}
 use Rattle.ds_map.specs.Bounds.{Bounds}
+use Rattle.ds_map.specs.Blocks.{class_of}
 use Rattle.ds_map.specs.Words.{word_of}
 use Rattle.ds_step.specs.declared.OpKind.TheVariants.{Load, Store, Add}
 use Rattle.ds_step.specs.declared.WordOp.{WordOp}
@@ -15,9 +17,13 @@ use Rattle.ds_plain.specs.declared.StartAt.{StartAt}
 use Rattle.ds_plain.specs.declared.StartAt.TheVariants.{LoadStart}
 use Rattle.ds_plain.specs.declared.AccessAt.{AccessAt}
 use Rattle.ds_plain.specs.declared.AccessAt.TheVariants.{LoadWord, StoreWord}
+use Rattle.ds_plain.specs.declared.AllocAt.TheVariants as allocs
+use Rattle.ds_plain.specs.declared.FreeAt.TheVariants as frees
 use Rattle.ds_plain.specs.declared.Position.{Position}
-use Rattle.ds_plain.specs.declared.Position.TheVariants.{Start, Access, DrawPrint, StoreEnded, Over, NoRow}
+use Rattle.ds_plain.specs.declared.Position.TheVariants.{Start, Access, Malloc, Free, DrawPrint, StoreEnded, Over, NoRow}
 use Rattle.ds_plain.specs.Parts.{is_whole}
+use Rattle.ds_plain.specs.Searching.{search_from, alloc_op, alloc_row, alloc_event}
+use Rattle.ds_plain.specs.Freeing.{free_op, free_row, free_event, is_freeable}
 
 -- the word that counts the threads given out
 abbrev pub given_word : ℕ
@@ -52,6 +58,8 @@ access_op lim (StoreWord loc value) = store_of (word_of lim loc) value
 abbrev pub op_at : Bounds → ℕ → Position → WordOp
 op_at lim t (Start at) = start_op t at
 op_at lim t (Access at) = access_op lim at
+op_at lim t (Malloc at) = alloc_op lim at
+op_at lim t (Free at) = free_op lim at
 op_at lim t (DrawPrint value) = record { kind = Add; word = prints_word; a = 1; b = 0 }
 op_at lim t (StoreEnded stop) = store_of (start_word t) 2
 op_at lim t (Over stop) = load_of 0
@@ -70,6 +78,8 @@ access_row (StoreWord loc value) = 15
 abbrev pub row_at : Position → ℕ
 row_at (Start at) = start_row at
 row_at (Access at) = access_row at
+row_at (Malloc at) = alloc_row at
+row_at (Free at) = free_row at
 row_at (DrawPrint value) = 13
 row_at (StoreEnded stop) = 12
 row_at (Over stop) = 0
@@ -89,18 +99,20 @@ access_event (LoadWord loc) old = events.Load loc old
 access_event (StoreWord loc value) old = events.Store loc value
 
 -- what the answer means
-abbrev pub event_at : ℕ → Position → ℕ → Event
-event_at t (Start at) old = start_event t at old
-event_at t (Access at) old = access_event at old
-event_at t (DrawPrint value) old = events.Print old value
-event_at t (StoreEnded stop) old = events.End
-event_at t (Over stop) old = events.Log
-event_at t NoRow old = events.Log
+abbrev pub event_at : Bounds → ℕ → Position → ℕ → Event
+event_at lim t (Start at) old = start_event t at old
+event_at lim t (Access at) old = access_event at old
+event_at lim t (Malloc at) old = alloc_event lim at old
+event_at lim t (Free at) old = free_event at old
+event_at lim t (DrawPrint value) old = events.Print old value
+event_at lim t (StoreEnded stop) old = events.End
+event_at lim t (Over stop) old = events.Log
+event_at lim t NoRow old = events.Log
 
 -- the step that thread t makes at a position, by its answer
 abbrev pub step_at : Bounds → ℕ → Position → ℕ → Step
 step_at lim t position old =
-    record { op = op_at lim t position; old = old; row = row_at position; event = event_at t position old }
+    record { op = op_at lim t position; old = old; row = row_at position; event = event_at lim t position old }
 
 -- POSITIONS
 
@@ -113,24 +125,36 @@ end_by (Trap trap) = StoreEnded (Trap trap)
 end_by (Full place what) = NoRow
 end_by Fuel = NoRow
 
--- the first position of a request
-abbrev pub position_of : Request → Position
-position_of (requests.Load access) = Access (LoadWord access.loc)
-position_of (requests.Store access value) = if is_whole access then Access (StoreWord access.loc value) else NoRow
-position_of (requests.Rmw access op value) = NoRow
-position_of (requests.Cas access expected new) = NoRow
-position_of (requests.Malloc bytes) = NoRow
-position_of (requests.Free address) = NoRow
-position_of (requests.Note loc value) = NoRow
-position_of (requests.Print value) = DrawPrint value
-position_of (requests.Spawn loc function arg) = NoRow
-position_of (requests.Join number) = NoRow
-position_of (requests.Stop stop) = end_by stop
+-- where a thread begins to look for a block of a class: behind the one of that class which it took last
+abbrev pub looking_for : (cursors : List ℕ) → Option ℕ → Position
+looking_for cursors None = NoRow
+looking_for cursors (Some class) = Malloc (allocs.LoadPage (search_from class (slice_index cursors class)))
+
+-- where a thread begins to free an address; nothing else than one of the heap, and a multiple of 8, is asked
+abbrev pub freeing_at : Bounds → ℕ → Position
+freeing_at lim address = if is_freeable lim address then Free (frees.LoadPage address) else NoRow
+
+-- the first position of a request of a thread that looks for blocks from these places on, by size class
+abbrev pub position_of : Bounds → (cursors : List ℕ) → Request → Position
+position_of lim cursors (requests.Load access) = Access (LoadWord access.loc)
+position_of lim cursors (requests.Store access value) =
+    if is_whole access then Access (StoreWord access.loc value) else NoRow
+position_of lim cursors (requests.Rmw access op value) = NoRow
+position_of lim cursors (requests.Cas access expected new) = NoRow
+position_of lim cursors (requests.Malloc bytes) = looking_for cursors (class_of bytes)
+position_of lim cursors (requests.Free address) = freeing_at lim address
+position_of lim cursors (requests.Note loc value) = NoRow
+position_of lim cursors (requests.Print value) = DrawPrint value
+position_of lim cursors (requests.Spawn loc function arg) = NoRow
+position_of lim cursors (requests.Join number) = NoRow
+position_of lim cursors (requests.Stop stop) = end_by stop
 
 -- a thread at this position makes no step
 abbrev pub is_over : Position → Bool
 is_over (Start at) = false
 is_over (Access at) = false
+is_over (Malloc at) = false
+is_over (Free at) = false
 is_over (DrawPrint value) = false
 is_over (StoreEnded stop) = false
 is_over (Over stop) = true

@@ -8,7 +8,7 @@ use Rattle.ds_step.specs.declared.Event.TheVariants as events
 use Rattle.ds_step.specs.declared.Step.{Step}
 use Rattle.ds_plain.specs.declared.Cue.{Cue}
 use Rattle.ds_plain.specs.declared.Position.{Position}
-use Rattle.ds_plain.specs.declared.Position.TheVariants.{Start, Access, DrawPrint, StoreEnded, Over, NoRow}
+use Rattle.ds_plain.specs.declared.Position.TheVariants.{Start, Access, Malloc, Free, DrawPrint, StoreEnded, Over, NoRow}
 use Rattle.ds_plain.specs.Behaviour.{Program}
 use Rattle.ds_plain.specs.State.{replaced}
 use Rattle.ds_plain.specs.Thread.{Thread, first_thread, moved}
@@ -176,6 +176,8 @@ pub record Remaining : Type 0 where
 abbrev pub is_ended : Position → Bool
 is_ended (Start at) = false
 is_ended (Access at) = false
+is_ended (Malloc at) = false
+is_ended (Free at) = false
 is_ended (DrawPrint value) = false
 is_ended (StoreEnded stop) = false
 is_ended (Over stop) = true

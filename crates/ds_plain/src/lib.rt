@@ -134,6 +134,58 @@ pub enum AccessAt {
     StoreWord { loc: u32, value: u64 },
 }
 
+/// How far a `malloc` has come through the places of its size class. It looks at the pages one after another, from the
+/// page of its first place on and round; in that one it begins at the first place. Where that is not the first of its
+/// page, it looks at this page once more in the end, at the places before the first one.
+#[derive(Clone, Copy, Debug, PartialEq, Eq)]
+pub struct Search {
+    /// The size class that it wants, below 15.
+    pub class: u8,
+    /// The place at which it began.
+    pub first: u32,
+    /// The number of pages that it has looked at.
+    pub passed: u32,
+    /// Whether it still has to look at the page of its first place once more.
+    pub again: bool,
+}
+
+/// Where a thread stands that takes a block.
+#[derive(Clone, Copy, Debug, PartialEq, Eq)]
+pub enum AllocAt {
+    /// It loads the word of a page.
+    LoadPage {
+        search: Search,
+    },
+    /// It gives a page, which had no size class, the class that it wants.
+    SwapPage {
+        search: Search,
+    },
+    /// It loads the word of the block with this index in its page.
+    LoadBlock {
+        search: Search,
+        index: u32,
+    },
+    /// It takes the block with this index in its page, which it saw free behind this life.
+    SwapBlock {
+        search: Search,
+        index: u32,
+        life: u32,
+    },
+}
+
+/// Where a thread stands that frees the block at an address.
+#[derive(Clone, Copy, Debug, PartialEq, Eq)]
+pub enum FreeAt {
+    /// It loads the word of the page.
+    LoadPage { address: u64 },
+    /// It loads the word of the block, which has this place.
+    LoadBlock { address: u64, place: u32 },
+    /// It takes the block to free it, which it saw live in this life.
+    SwapBlock { address: u64, place: u32, life: u32 },
+    /// It gives the block back.
+    StoreFree { place: u32, life: u32 },
+}
+
 /// Where a thread stands in the step table: which row it makes next, and what it remembers there.
 #[derive(Clone, Copy, Debug, PartialEq, Eq)]
 pub enum Position {
@@ -141,6 +193,10 @@ pub enum Position {
     Start(StartAt),
     /// It accesses program memory.
     Access(AccessAt),
+    /// It takes a block.
+    Malloc(AllocAt),
+    /// It frees a block.
+    Free(FreeAt),
     /// It draws the next print number.
     DrawPrint { value: u64 },
     /// It marks its start word as ended.

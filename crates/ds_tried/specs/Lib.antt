@@ -11,3 +11,4 @@ pub mod Modules
 pub mod Worked
 pub mod Threaded
 pub mod Loops
+pub mod Rows

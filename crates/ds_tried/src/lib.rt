@@ -36,6 +36,8 @@ ghost use Rattle.ds_tried.specs.Schedules.{CueEndsAtAWait, CueEndsAtAnEnd, CueIs
 ghost use Rattle.ds_tried.specs.Schedules.{CuedHistory};
 ghost use Rattle.ds_tried.specs.Rounds.{TenThousandEndARound, OneUnitLessGoesOn, EachThreadHasEachRound};
 ghost use Rattle.ds_tried.specs.Rounds.{MainEndsInTheLast};
+ghost use Rattle.ds_tried.specs.Rows.{BlockIsTakenAndFreed, OthersAreSeen, StrangeWordsAreAskedAgain, NullIsTold};
+ghost use Rattle.ds_tried.specs.Rows.{PagesAreLookedAtRound, NoStartsAreRefused, SecondFreesAreRefused};
 ghost use Rattle.ds_tried.specs.Worked.{use_after_free_traps, pointer_store_is_noted, free_of_marked_pointer_traps};
 ghost use Rattle.ds_tried.specs.Worked.{pointer_in_register_is_not_found, free_of_null_does_nothing};
 ghost use Rattle.ds_tried.specs.Worked.{double_free_traps, free_inside_block_traps, free_of_stack_traps};
@@ -228,6 +230,17 @@ pub fn runs_are_cut_into_rounds()
     ensures one_unit_less_goes_on { OneUnitLessGoesOn }
     ensures each_thread_has_each_round { EachThreadHasEachRound }
     ensures main_ends_in_the_last { MainEndsInTheLast }
+{}
+
+/// The steps of a malloc and a free follow the step table.
+pub fn rows_are_followed()
+    ensures taken_and_freed { BlockIsTakenAndFreed }
+    ensures others { OthersAreSeen }
+    ensures strange_words { StrangeWordsAreAskedAgain }
+    ensures null { NullIsTold }
+    ensures round { PagesAreLookedAtRound }
+    ensures no_starts { NoStartsAreRefused }
+    ensures second_frees { SecondFreesAreRefused }
 {}
 
 /// A use of a dangling pointer that was stored traps, and one of a pointer in a register does not.
