@@ -1,20 +1,25 @@
 -- How long traces and histories can be.
-use Rattle.std.proofs.Common.{◌≡◌, ℕ, zero, suc, ◌+◌, ◌*◌, ◌<◌, ◌≤◌, ◌==◌, Bool, true, false, if◌then◌else◌, nat_lt}
+use Rattle.std.proofs.Common.{◌≡◌, ℕ, zero, suc, ◌+◌, ◌*◌, ◌<◌, ◌≤◌, ◌==◌, Bool, true, false, if◌then◌else◌, nat_lt, slice_set}
 use Rattle.std.proofs.Common.{nat_le, List, [], ◌∷◌, length, refl, sym, ap, ◌∙◌, subst, inl, inr, ◌⊎◌, arith, eqb-true}
 use Rattle.std.proofs.Common.{ltb-true, leb-true}
 use Rattle.std.proofs.lemmas.Bool.{cases_eq, eq-eqb, ne_eqb}
 use Rattle.ds_map.specs.Bounds.{Bounds}
+use Rattle.ds_map.specs.Blocks.{block_start}
 use Rattle.ds_step.specs.declared.Step.{Step}
 use Rattle.ds_plain.specs.declared.Stop.{Stop}
 use Rattle.ds_plain.specs.declared.Stop.TheVariants.{Fuel}
 use Rattle.ds_plain.specs.declared.StartAt.TheVariants.{LoadStart}
 use Rattle.ds_plain.specs.declared.AccessAt.TheVariants.{LoadWord, StoreWord}
 use Rattle.ds_plain.specs.declared.Position.{Position}
-use Rattle.ds_plain.specs.declared.Position.TheVariants.{Start, DrawPrint, StoreEnded, Over, NoRow}
+use Rattle.ds_plain.specs.declared.Position.TheVariants.{Start, Malloc, Free, DrawPrint, StoreEnded, Over, NoRow}
 use Rattle.ds_plain.specs.declared.Position.TheVariants as positions
-use Rattle.ds_plain.specs.Behaviour.{Asked, Asks, Silent, Behaviour, told, Program}
+use Rattle.ds_plain.specs.Behaviour.{Asked, Asks, Silent, Behaviour, place_in_text, told, Program}
+use Rattle.ds_plain.specs.Searching.{AllocNext, Looks, Takes, TakesNone, place_behind, alloc_next}
+use Rattle.ds_plain.specs.Freeing.{FreeNext, FreesOn, Freed, FailsFree, free_next}
 use Rattle.ds_plain.specs.Table.{begins, position_of, is_over}
-use Rattle.ds_plain.specs.Thread.{Thread, paying, standing, arriving, going_on, moved_from, Follows}
+use Rattle.ds_plain.specs.Plain.{trap_stop}
+use Rattle.ds_plain.specs.Thread.{Thread, paying, standing, arriving, going_on, moved_from_malloc, moved_from_free}
+use Rattle.ds_plain.specs.Thread.{freed_address, trap_kind, moved_from, Follows}
 use Rattle.ds_plain.specs.History.{History, steps_of}
 use Rattle.ds_plain_laws.proofs.Choices.{of_if}
 
@@ -28,6 +33,8 @@ over_rest program lim t a (s ∷ ss) over follows = absurd (cc (over, follows.0)
 abbrev pub HasPaid : Bounds → ℕ → Position → Type 0
 HasPaid lim units (Start at) = units < lim.fuel
 HasPaid lim units (positions.Access at) = units < lim.fuel
+HasPaid lim units (Malloc at) = units < lim.fuel
+HasPaid lim units (Free at) = units < lim.fuel
 HasPaid lim units (DrawPrint value) = units < lim.fuel
 HasPaid lim units (StoreEnded stop) = units ≤ lim.fuel
 HasPaid lim units (Over stop) = units ≤ lim.fuel
@@ -43,21 +50,24 @@ pays_if : (lim : Bounds) (low : ℕ) (b : Bool) (x y : Thread) → (b ≡ true �
 pays_if lim low true x y p q = p refl
 pays_if lim low false x y p q = q
 
-module _ (lim : Bounds) where
+module _ (lim : Bounds) (cursors : List ℕ) where
   -- a thread that comes to a step which costs one unit
   paying_pays : (rest : Behaviour) (units : ℕ) (began : Bool) (p : Position) → (units < lim.fuel → HasPaid lim units p)
-      → units ≤ lim.fuel → Pays lim units (paying lim rest units began p)
+      → units ≤ lim.fuel → Pays lim units (paying lim cursors rest units began p)
   paying_pays rest units began p paid le =
-      pays_if lim units (nat_lt units lim.fuel) (record { rest = rest; position = p; units = units; began = began })
-      (record { rest = rest; position = StoreEnded Fuel; units = units; began = began })
+      pays_if lim units (nat_lt units lim.fuel)
+      (record { rest = rest; position = p; units = units; began = began; cursors = cursors })
+      (record { rest = rest; position = StoreEnded Fuel; units = units; began = began; cursors = cursors })
       (λ e. record { paid = paid (ltb-true units lim.fuel e); least = omega arith })
       (record { paid = le; least = omega arith })
 
   pub standing_pays : (rest : Behaviour) (units : ℕ) (began : Bool) (p : Position) → units ≤ lim.fuel
-      → Pays lim units (standing lim rest units began p)
+      → Pays lim units (standing lim cursors rest units began p)
   standing_pays rest units began (Start at) le = paying_pays rest units began (Start at) (λ lt. lt) le
   standing_pays rest units began (positions.Access at) le =
       paying_pays rest units began (positions.Access at) (λ lt. lt) le
+  standing_pays rest units began (Malloc at) le = paying_pays rest units began (Malloc at) (λ lt. lt) le
+  standing_pays rest units began (Free at) le = paying_pays rest units began (Free at) (λ lt. lt) le
   standing_pays rest units began (DrawPrint value) le = paying_pays rest units began (DrawPrint value) (λ lt. lt) le
   standing_pays rest units began (StoreEnded stop) le = record { paid = le; least = omega arith }
   standing_pays rest units began (Over stop) le = record { paid = le; least = omega arith }
@@ -65,77 +75,114 @@ module _ (lim : Bounds) where
 
   -- a thread that comes to its request
   arriving_pays : (rest : Behaviour) (units : ℕ) (asked : Asked) → units ≤ lim.fuel
-      → Pays lim units (arriving lim rest units asked)
+      → Pays lim units (arriving lim cursors rest units asked)
   arriving_pays rest units (Asks begun place request) le =
       pays_if lim units (nat_le (units + begun) lim.fuel)
-      (standing lim rest (units + begun) true (position_of request))
-      (record { rest = rest; position = StoreEnded Fuel; units = lim.fuel; began = true })
-      (λ e. let pays = standing_pays rest (units + begun) true (position_of request)
+      (standing lim cursors rest (units + begun) true (position_of lim cursors request))
+      (record { rest = rest; position = StoreEnded Fuel; units = lim.fuel; began = true; cursors = cursors })
+      (λ e. let pays = standing_pays rest (units + begun) true (position_of lim cursors request)
       (leb-true (units + begun) lim.fuel e) in
       record { paid = pays.paid; least = omega (arith, pays.least) })
       (record { paid = omega arith; least = le })
   arriving_pays rest units Silent le = record { paid = omega arith; least = le }
 
   -- the next request is never dearer than the fuel
-  going_pays : (units : ℕ) (rest : Behaviour) → units ≤ lim.fuel → Pays lim units (going_on lim units rest)
+  going_pays : (units : ℕ) (rest : Behaviour) → units ≤ lim.fuel → Pays lim units (going_on lim cursors units rest)
   going_pays units rest le = arriving_pays rest units (rest []) le
+
+-- the parts of a thread
+abbrev thread_with : Behaviour → Position → ℕ → Bool → List ℕ → Thread
+thread_with rest p units began cursors =
+    record { rest = rest; position = p; units = units; began = began; cursors = cursors }
 
 module _ (program : Program) (lim : Bounds) (t : ℕ) where
   -- how a thread at a position goes on, by an answer
-  abbrev after : Position → Behaviour → ℕ → Bool → ℕ → Thread
-  after p rest units began old =
-      moved_from program lim t (record { rest = rest; position = p; units = units; began = began }) p old
+  abbrev after : Position → Behaviour → ℕ → Bool → List ℕ → ℕ → Thread
+  after p rest units began cursors old = moved_from program lim t (thread_with rest p units began cursors) p old
+
+  malloc_pays : (a : Thread) (next : AllocNext) → a.units < lim.fuel
+      → Pays lim (a.units + 1) (moved_from_malloc lim a next)
+  malloc_pays a (Looks at) lt = standing_pays lim a.cursors a.rest (a.units + 1) a.began (Malloc at) (omega arith)
+  malloc_pays a (Takes class place life) lt =
+      going_pays lim (slice_set a.cursors class (place_behind lim class place)) (a.units + 1)
+      (told a.rest (block_start place class)) (omega arith)
+  malloc_pays a TakesNone lt = going_pays lim a.cursors (a.units + 1) (told a.rest 0) (omega arith)
+
+  free_pays : (a : Thread) (address : ℕ) (next : FreeNext) → a.units < lim.fuel
+      → Pays lim (a.units + 1) (moved_from_free lim a address next)
+  free_pays a address (FreesOn at) lt =
+      standing_pays lim a.cursors a.rest (a.units + 1) a.began (Free at) (omega arith)
+  free_pays a address Freed lt = going_pays lim a.cursors (a.units + 1) (told a.rest 0) (omega arith)
+  free_pays a address (FailsFree trap) lt =
+      standing_pays lim a.cursors a.rest (a.units + 1) a.began
+      (StoreEnded (trap_stop (place_in_text (a.rest [])) (trap_kind address trap))) (omega arith)
 
   -- each step but the last costs a unit
-  step_pays : (p : Position) (rest : Behaviour) (units : ℕ) (began : Bool) (old : ℕ) → units < lim.fuel
-      → is_over p ≡ false → ((stop : Stop) → p ≡ StoreEnded stop → ⊥)
-      → Pays lim (units + 1) (after p rest units began old)
-  step_pays (Start LoadStart) rest units began old lt over goes =
-      of_if (Pays lim (units + 1)) (begins t old) (going_on lim (units + 1) (program.behaves t program.main 0))
-      (standing lim rest (units + 1) began (Start LoadStart))
-      (going_pays lim (units + 1) (program.behaves t program.main 0) (omega arith))
-      (standing_pays lim rest (units + 1) began (Start LoadStart) (omega arith))
-  step_pays (positions.Access (LoadWord loc)) rest units began old lt over goes =
-      going_pays lim (units + 1) (told rest old) (omega arith)
-  step_pays (positions.Access (StoreWord loc value)) rest units began old lt over goes =
-      going_pays lim (units + 1) (told rest 0) (omega arith)
-  step_pays (DrawPrint value) rest units began old lt over goes =
-      going_pays lim (units + 1) (told rest 0) (omega arith)
-  step_pays (StoreEnded stop) rest units began old lt over goes = absurd (goes stop refl)
-  step_pays (Over stop) rest units began old lt over goes = absurd (cc (over))
-  step_pays NoRow rest units began old lt over goes = absurd (cc (over))
+  step_pays : (p : Position) (rest : Behaviour) (units : ℕ) (began : Bool) (cursors : List ℕ) (old : ℕ)
+      → units < lim.fuel → is_over p ≡ false → ((stop : Stop) → p ≡ StoreEnded stop → ⊥)
+      → Pays lim (units + 1) (after p rest units began cursors old)
+  step_pays (Start LoadStart) rest units began cursors old lt over goes =
+      of_if (Pays lim (units + 1)) (begins t old)
+      (going_on lim cursors (units + 1) (program.behaves t program.main 0))
+      (standing lim cursors rest (units + 1) began (Start LoadStart))
+      (going_pays lim cursors (units + 1) (program.behaves t program.main 0) (omega arith))
+      (standing_pays lim cursors rest (units + 1) began (Start LoadStart) (omega arith))
+  step_pays (positions.Access (LoadWord loc)) rest units began cursors old lt over goes =
+      going_pays lim cursors (units + 1) (told rest old) (omega arith)
+  step_pays (positions.Access (StoreWord loc value)) rest units began cursors old lt over goes =
+      going_pays lim cursors (units + 1) (told rest 0) (omega arith)
+  step_pays (Malloc at) rest units began cursors old lt over goes =
+      malloc_pays (thread_with rest (Malloc at) units began cursors) (alloc_next lim at old) lt
+  step_pays (Free at) rest units began cursors old lt over goes =
+      free_pays (thread_with rest (Free at) units began cursors) (freed_address at) (free_next at old) lt
+  step_pays (DrawPrint value) rest units began cursors old lt over goes =
+      going_pays lim cursors (units + 1) (told rest 0) (omega arith)
+  step_pays (StoreEnded stop) rest units began cursors old lt over goes = absurd (goes stop refl)
+  step_pays (Over stop) rest units began cursors old lt over goes = absurd (cc (over))
+  step_pays NoRow rest units began cursors old lt over goes = absurd (cc (over))
 
   -- a trace that follows has no more steps than the fuel pays for, and the last
-  pub trace_length : (ss : List Step) (rest : Behaviour) (p : Position) (units : ℕ) (began : Bool)
+  pub trace_length : (ss : List Step) (rest : Behaviour) (p : Position) (units : ℕ) (began : Bool) (cursors : List ℕ)
       → HasPaid lim units p
-      → Follows program lim t (record { rest = rest; position = p; units = units; began = began }) ss
+      → Follows program lim t (thread_with rest p units began cursors) ss
       → length ss + units ≤ lim.fuel + 1
-  trace_length [] rest (Start at) units began paid follows = omega arith
-  trace_length [] rest (positions.Access at) units began paid follows = omega arith
-  trace_length [] rest (DrawPrint value) units began paid follows = omega arith
-  trace_length [] rest (StoreEnded stop) units began paid follows = omega arith
-  trace_length [] rest (Over stop) units began paid follows = omega arith
-  trace_length [] rest NoRow units began paid follows = omega arith
-  trace_length (s ∷ ss) rest (StoreEnded stop) units began paid follows =
-      let none = over_rest program lim t
-      (record { rest = rest; position = Over stop; units = units; began = began }) ss refl follows.2 in
+  trace_length [] rest (Start at) units began cursors paid follows = omega arith
+  trace_length [] rest (positions.Access at) units began cursors paid follows = omega arith
+  trace_length [] rest (Malloc at) units began cursors paid follows = omega arith
+  trace_length [] rest (Free at) units began cursors paid follows = omega arith
+  trace_length [] rest (DrawPrint value) units began cursors paid follows = omega arith
+  trace_length [] rest (StoreEnded stop) units began cursors paid follows = omega arith
+  trace_length [] rest (Over stop) units began cursors paid follows = omega arith
+  trace_length [] rest NoRow units began cursors paid follows = omega arith
+  trace_length (s ∷ ss) rest (StoreEnded stop) units began cursors paid follows =
+      let none = over_rest program lim t (thread_with rest (Over stop) units began cursors) ss refl follows.2 in
       omega (arith, ap length none)
-  trace_length (s ∷ ss) rest (Over stop) units began paid follows = absurd (cc (follows.0))
-  trace_length (s ∷ ss) rest NoRow units began paid follows = absurd (cc (follows.0))
-  trace_length (s ∷ ss) rest (Start at) units began paid follows =
-      let a : Thread = after (Start at) rest units began s.old in
-      let pays = step_pays (Start at) rest units began s.old paid follows.0 (λ stop e. cc) in
-      let more = trace_length ss a.rest a.position a.units a.began pays.paid follows.2 in
+  trace_length (s ∷ ss) rest (Over stop) units began cursors paid follows = absurd (cc (follows.0))
+  trace_length (s ∷ ss) rest NoRow units began cursors paid follows = absurd (cc (follows.0))
+  trace_length (s ∷ ss) rest (Start at) units began cursors paid follows =
+      let a : Thread = after (Start at) rest units began cursors s.old in
+      let pays = step_pays (Start at) rest units began cursors s.old paid follows.0 (λ stop e. cc) in
+      let more = trace_length ss a.rest a.position a.units a.began a.cursors pays.paid follows.2 in
       omega (arith, more, pays.least)
-  trace_length (s ∷ ss) rest (positions.Access at) units began paid follows =
-      let a : Thread = after (positions.Access at) rest units began s.old in
-      let pays = step_pays (positions.Access at) rest units began s.old paid follows.0 (λ stop e. cc) in
-      let more = trace_length ss a.rest a.position a.units a.began pays.paid follows.2 in
+  trace_length (s ∷ ss) rest (positions.Access at) units began cursors paid follows =
+      let a : Thread = after (positions.Access at) rest units began cursors s.old in
+      let pays = step_pays (positions.Access at) rest units began cursors s.old paid follows.0 (λ stop e. cc) in
+      let more = trace_length ss a.rest a.position a.units a.began a.cursors pays.paid follows.2 in
       omega (arith, more, pays.least)
-  trace_length (s ∷ ss) rest (DrawPrint value) units began paid follows =
-      let a : Thread = after (DrawPrint value) rest units began s.old in
-      let pays = step_pays (DrawPrint value) rest units began s.old paid follows.0 (λ stop e. cc) in
-      let more = trace_length ss a.rest a.position a.units a.began pays.paid follows.2 in
+  trace_length (s ∷ ss) rest (Malloc at) units began cursors paid follows =
+      let a : Thread = after (Malloc at) rest units began cursors s.old in
+      let pays = step_pays (Malloc at) rest units began cursors s.old paid follows.0 (λ stop e. cc) in
+      let more = trace_length ss a.rest a.position a.units a.began a.cursors pays.paid follows.2 in
+      omega (arith, more, pays.least)
+  trace_length (s ∷ ss) rest (Free at) units began cursors paid follows =
+      let a : Thread = after (Free at) rest units began cursors s.old in
+      let pays = step_pays (Free at) rest units began cursors s.old paid follows.0 (λ stop e. cc) in
+      let more = trace_length ss a.rest a.position a.units a.began a.cursors pays.paid follows.2 in
+      omega (arith, more, pays.least)
+  trace_length (s ∷ ss) rest (DrawPrint value) units began cursors paid follows =
+      let a : Thread = after (DrawPrint value) rest units began cursors s.old in
+      let pays = step_pays (DrawPrint value) rest units began cursors s.old paid follows.0 (λ stop e. cc) in
+      let more = trace_length ss a.rest a.position a.units a.began a.cursors pays.paid follows.2 in
       omega (arith, more, pays.least)
 
 -- a history without the steps of one thread

@@ -1,9 +1,13 @@
 pub mod Choices
 pub mod Pushes
+pub mod Heap
 pub mod Words
 pub mod Phases
+pub mod Leaving
 pub mod Links
 pub mod Makes
+pub mod Mallocs
+pub mod Frees
 pub mod Counts
 pub mod Runs
 pub mod Recorded

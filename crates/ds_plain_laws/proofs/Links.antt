@@ -1,8 +1,10 @@
 -- How a recorded thread and its phase in the plain machine go together, and that steps of other threads keep it so.
-use Rattle.std.proofs.Common.{◌≡◌, ℕ, ◌+◌, ◌==◌, Bool, true, false, if◌then◌else◌, nat_lt, nat_le, [], refl, sym}
-use Rattle.std.proofs.Common.{ap, ◌∙◌}
-use Rattle.ds_map.specs.Bounds.{Bounds}
+use Rattle.std.proofs.Common.{◌≡◌, ℕ, ◌+◌, ◌≤◌, ◌==◌, Bool, true, false, if◌then◌else◌, nat_lt, nat_le}
+use Rattle.std.proofs.Common.{List, [], Option, Some, None, refl, sym, ap, ◌∙◌, arith, slice_index}
+use Rattle.ds_map.specs.Bounds.{Bounds, IsInRange}
+use Rattle.ds_map.specs.Blocks.{Pages, class_of, place_starting}
 use Rattle.ds_plain.specs.declared.Access.{Access}
+use Rattle.ds_plain.specs.declared.Place.{Place}
 use Rattle.ds_plain.specs.declared.Stop.{Stop}
 use Rattle.ds_plain.specs.declared.Stop.TheVariants.{Idle, Running, Returned, Trap, Full, Fuel}
 use Rattle.ds_plain.specs.declared.Request.{Request}
@@ -11,21 +13,45 @@ use Rattle.ds_plain.specs.declared.StartAt.{StartAt}
 use Rattle.ds_plain.specs.declared.StartAt.TheVariants.{LoadStart}
 use Rattle.ds_plain.specs.declared.AccessAt.{AccessAt}
 use Rattle.ds_plain.specs.declared.AccessAt.TheVariants.{LoadWord, StoreWord}
+use Rattle.ds_plain.specs.declared.AllocAt.{AllocAt}
+use Rattle.ds_plain.specs.declared.AllocAt.TheVariants as allocs
+use Rattle.ds_plain.specs.declared.FreeAt.{FreeAt}
+use Rattle.ds_plain.specs.declared.FreeAt.TheVariants as frees
 use Rattle.ds_plain.specs.declared.Position.{Position}
-use Rattle.ds_plain.specs.declared.Position.TheVariants.{Start, DrawPrint, StoreEnded, Over, NoRow}
+use Rattle.ds_plain.specs.declared.Position.TheVariants.{Start, Malloc, Free, DrawPrint, StoreEnded, Over, NoRow}
 use Rattle.ds_plain.specs.declared.Position.TheVariants as positions
 use Rattle.ds_plain.specs.Behaviour.{Asked, Asks, Silent, Behaviour, Program}
 use Rattle.ds_plain.specs.Parts.{is_whole}
-use Rattle.ds_plain.specs.State.{Phase, Stopped, first_phase, stop_of_phase}
-use Rattle.ds_plain.specs.Table.{position_of, end_by}
-use Rattle.ds_plain.specs.Thread.{Thread, paying, standing, arriving, stop_at}
+use Rattle.ds_plain.specs.State.{Freeing, Block, block_in, Phase, Stopped, State, first_phase, stop_of_phase}
+use Rattle.ds_plain.specs.State.{first_left, places_wanted, untouched, come_to}
+use Rattle.ds_plain.specs.Searching.{search_from, page_in}
+use Rattle.ds_plain.specs.Freeing.{is_freeable}
+use Rattle.ds_plain.specs.Reached.{IsAllocAt, AreCursors, ahead_of, IsFreeAt}
+use Rattle.ds_plain.specs.Table.{looking_for, position_of, end_by}
+use Rattle.ds_plain.specs.Thread.{Thread, paying, standing, arriving, going_on, stop_at}
+use Rattle.ds_alloc_laws.specs.Laws.{MallocsBegin, MallocsLookOn, MallocsHaveLeft, CursorsBegin, CursorsMove}
+use Rattle.ds_alloc_laws.specs.Laws.{ClassesAreFew, class_at}
 use Rattle.ds_plain_laws.proofs.Choices.{of_if}
-use Rattle.ds_plain_laws.proofs.Phases.{Runs, Asking, Passes, runs_on, asking_on, start_idle, start_on, stopped_on}
+use Rattle.ds_plain_laws.proofs.Heap.{starts_on}
+use Rattle.ds_plain_laws.proofs.Leaving.{Leaves, FreesNone, FreesAt, frees_anywhere, frees_on}
+use Rattle.ds_plain_laws.proofs.Phases.{Runs, Asking, Halts, Passes, runs_on, runs_same, asking_on, halts_on}
+use Rattle.ds_plain_laws.proofs.Phases.{start_idle, start_on, stopped_on}
 
--- why a thread stands at its last step: it asked for that stop, or its fuel ran out, while it ran or before it began
+-- what is known of a malloc's rows
+pub record Walks : Type 0 where
+  pub few : ClassesAreFew
+  pub begin : MallocsBegin
+  pub look_on : MallocsLookOn
+  pub have_left : MallocsHaveLeft
+  pub start : CursorsBegin
+  pub move : CursorsMove
+
+-- why a thread stands at its last step: it asked for that stop, or came to it, or its fuel ran out, while it ran or before
+-- it began
 pub data Ending (program : Program) (t : ℕ) (rest : Behaviour) (began : Bool) (phase : Phase) (stop : Stop)
     : Type 0 where
   Finishes : began ≡ true → Asking rest phase (requests.Stop stop) → Ending program t rest began phase stop
+  Trapped : began ≡ true → Halts rest phase stop → Ending program t rest began phase stop
   Spent : began ≡ true → Runs rest phase → stop ≡ Fuel → Ending program t rest began phase stop
   Never : began ≡ false → phase ≡ first_phase program t → stop ≡ Fuel → Ending program t rest began phase stop
 
@@ -40,17 +66,69 @@ AccessLinked rest phase (LoadWord loc) =
 AccessLinked rest phase (StoreWord loc value) =
     (access : Access) × (access.loc ≡ loc) × (is_whole access ≡ true) × Asking rest phase (requests.Store access value)
 
--- the phase of a thread that stands at a position
-abbrev pub Linked : Program → ℕ → Behaviour → Bool → Phase → Position → Type 0
-Linked program t rest began phase (Start at) = StartLinked program t began phase at
-Linked program t rest began phase (positions.Access at) = AccessLinked rest phase at
-Linked program t rest began phase (DrawPrint value) = Asking rest phase (requests.Print value)
-Linked program t rest began phase (StoreEnded stop) = Ending program t rest began phase stop
-Linked program t rest began phase (Over stop) = phase ≡ Stopped stop
-Linked program t rest began phase NoRow = (request : Request) × Asking rest phase request
+-- the page at whose blocks a malloc looks has the class that it wants
+abbrev pub IsSized : Bounds → Pages → AllocAt → Type 0
+IsSized lim pages (allocs.LoadPage search) = Unit {0}
+IsSized lim pages (allocs.SwapPage search) = Unit {0}
+IsSized lim pages (allocs.LoadBlock search index) = pages (page_in lim search) ≡ Some search.class
+IsSized lim pages (allocs.SwapBlock search index life) = pages (page_in lim search) ≡ Some search.class
 
-abbrev pub IsLinked : Program → ℕ → Phase → Thread → Type 0
-IsLinked program t phase a = Linked program t a.rest a.began phase a.position
+-- the phase of a thread that takes a block: what is left of its malloc is what it still comes to
+pub record MallocLinked (lim : Bounds) (rest : Behaviour) (began : Bool) (pages : Pages) (phase : Phase) (at : AllocAt)
+    : Type 0 where
+  pub has_begun : began ≡ true
+  pub bytes : ℕ
+  pub asking : Asking rest phase (requests.Malloc bytes)
+  pub wanted : class_of bytes ≡ Some (class_at at)
+  pub reached : IsAllocAt lim at
+  pub left : asking.runs.doing.left ≡ ahead_of lim at
+  pub sized : IsSized lim pages at
+
+-- the phase of a thread that frees the block at an address: no life has fallen since it asked, and nothing is due
+pub record FreeAsking (rest : Behaviour) (began : Bool) (blocks : ℕ → Block) (phase : Phase) (address : ℕ) : Type 0 where
+  pub has_begun : began ≡ true
+  pub asking : Asking rest phase (requests.Free address)
+  pub older : (place : ℕ) → asking.runs.doing.lives place ≤ (blocks place).life
+  pub none_due : asking.runs.doing.due ≡ []
+
+-- it saw the block live in this life, which was no earlier one when it asked
+pub record FreeSaw (rest : Behaviour) (began : Bool) (blocks : ℕ → Block) (phase : Phase) (address place life : ℕ)
+    : Type 0 where
+  pub asks : FreeAsking rest began blocks phase address
+  pub since : asks.asking.runs.doing.lives place ≤ life
+  pub before : life ≤ (blocks place).life
+
+abbrev pub FreeLinked : Bounds → ℕ → Behaviour → Bool → Pages → (ℕ → Block) → Phase → FreeAt → Type 0
+FreeLinked lim t rest began pages blocks phase (frees.LoadPage address) = FreeAsking rest began blocks phase address
+FreeLinked lim t rest began pages blocks phase (frees.LoadBlock address place) =
+    FreeAsking rest began blocks phase address × (place_starting lim pages address ≡ Some place)
+FreeLinked lim t rest began pages blocks phase (frees.SwapBlock address place life) =
+    FreeSaw rest began blocks phase address place life × (place_starting lim pages address ≡ Some place)
+FreeLinked lim t rest began pages blocks phase (frees.StoreFree place life) =
+    (address : ℕ) × FreeAsking rest began blocks phase address × (place_starting lim pages address ≡ Some place)
+    × (blocks place ≡ block_in life (Freeing t))
+
+module _ (program : Program) (lim : Bounds) (t : ℕ) where
+  -- the state of a thread that stands at a position
+  abbrev pub Linked : Behaviour → Bool → State → Position → Type 0
+  Linked rest began s (Start at) = StartLinked program t began (s.threads t) at
+  Linked rest began s (positions.Access at) = AccessLinked rest (s.threads t) at
+  Linked rest began s (Malloc at) = MallocLinked lim rest began s.pages (s.threads t) at
+  Linked rest began s (Free at) =
+      FreeLinked lim t rest began s.pages s.blocks (s.threads t) at × IsFreeAt lim at
+  Linked rest began s (DrawPrint value) = Asking rest (s.threads t) (requests.Print value)
+  Linked rest began s (StoreEnded stop) = Ending program t rest began (s.threads t) stop
+  Linked rest began s (Over stop) = s.threads t ≡ Stopped stop
+  Linked rest began s NoRow = (request : Request) × Asking rest (s.threads t) request
+
+  -- the state of a thread, what it frees, and where it looks for blocks
+  pub record LinkedAt (rest : Behaviour) (began : Bool) (s : State) (cursors : List ℕ) (p : Position) : Type 0 where
+    pub stands : Linked rest began s p
+    pub frees_so : FreesAt t s.blocks p
+    pub looks : AreCursors lim cursors
+
+  abbrev pub IsLinked : State → Thread → Type 0
+  IsLinked s a = LinkedAt a.rest a.began s a.cursors a.position
 
 -- A THREAD STANDS AS ITS PHASE DOES
 
@@ -63,20 +141,32 @@ start_stop program t phase is = sym (ap stop_of_phase is ∙ start_idle (t == 0)
 last_stop : (b b' : Bool) → b ≡ b' → (if b then Running else Idle) ≡ (if b' then Running else Idle)
 last_stop b b' is = ap (λ b. if b then Running else Idle) is
 
-pub linked_stop : (program : Program) (t : ℕ) (rest : Behaviour) (began : Bool) (phase : Phase) (p : Position)
-    → Linked program t rest began phase p → stop_at began p ≡ stop_of_phase phase
-linked_stop program t rest began phase (Start LoadStart) l = start_stop program t phase l.1
-linked_stop program t rest began phase (positions.Access (LoadWord loc)) l = runs_stop rest phase l.2.runs
-linked_stop program t rest began phase (positions.Access (StoreWord loc value)) l = runs_stop rest phase l.3.runs
-linked_stop program t rest began phase (DrawPrint value) l = runs_stop rest phase l.runs
-linked_stop program t rest began phase (StoreEnded stop) (Finishes b asking) =
-    last_stop began true b ∙ runs_stop rest phase asking.runs
-linked_stop program t rest began phase (StoreEnded stop) (Spent b runs fuel) =
-    last_stop began true b ∙ runs_stop rest phase runs
-linked_stop program t rest began phase (StoreEnded stop) (Never b is fuel) =
-    last_stop began false b ∙ start_stop program t phase is
-linked_stop program t rest began phase (Over stop) l = sym (ap stop_of_phase l)
-linked_stop program t rest began phase NoRow l = runs_stop rest phase l.1.runs
+pub linked_stop : (program : Program) (lim : Bounds) (t : ℕ) (rest : Behaviour) (began : Bool) (s : State) (p : Position)
+    → Linked program lim t rest began s p → stop_at began p ≡ stop_of_phase (s.threads t)
+linked_stop program lim t rest began s (Start LoadStart) l = start_stop program t (s.threads t) l.1
+linked_stop program lim t rest began s (positions.Access (LoadWord loc)) l = runs_stop rest (s.threads t) l.2.runs
+linked_stop program lim t rest began s (positions.Access (StoreWord loc value)) l =
+    runs_stop rest (s.threads t) l.3.runs
+linked_stop program lim t rest began s (Malloc at) l = runs_stop rest (s.threads t) l.asking.runs
+linked_stop program lim t rest began s (Free (frees.LoadPage address)) l =
+    runs_stop rest (s.threads t) l.0.asking.runs
+linked_stop program lim t rest began s (Free (frees.LoadBlock address place)) l =
+    runs_stop rest (s.threads t) l.0.0.asking.runs
+linked_stop program lim t rest began s (Free (frees.SwapBlock address place life)) l =
+    runs_stop rest (s.threads t) l.0.0.asks.asking.runs
+linked_stop program lim t rest began s (Free (frees.StoreFree place life)) l =
+    runs_stop rest (s.threads t) l.0.1.asking.runs
+linked_stop program lim t rest began s (DrawPrint value) l = runs_stop rest (s.threads t) l.runs
+linked_stop program lim t rest began s (StoreEnded stop) (Finishes b asking) =
+    last_stop began true b ∙ runs_stop rest (s.threads t) asking.runs
+linked_stop program lim t rest began s (StoreEnded stop) (Trapped b halts) =
+    last_stop began true b ∙ sym (ap stop_of_phase halts.going)
+linked_stop program lim t rest began s (StoreEnded stop) (Spent b runs fuel) =
+    last_stop began true b ∙ runs_stop rest (s.threads t) runs
+linked_stop program lim t rest began s (StoreEnded stop) (Never b is fuel) =
+    last_stop began false b ∙ start_stop program t (s.threads t) is
+linked_stop program lim t rest began s (Over stop) l = sym (ap stop_of_phase l)
+linked_stop program lim t rest began s NoRow l = runs_stop rest (s.threads t) l.1.runs
 
 -- STEPS OF OTHER THREADS
 
@@ -84,108 +174,250 @@ ending_on : (program : Program) (t : ℕ) (rest : Behaviour) (began : Bool) (pha
     → Passes phase phase' → Ending program t rest began phase stop → Ending program t rest began phase' stop
 ending_on program t rest began phase phase' stop passes (Finishes b asking) =
     Finishes b (asking_on rest phase phase' (requests.Stop stop) asking passes)
+ending_on program t rest began phase phase' stop passes (Trapped b halts) =
+    Trapped b (halts_on rest phase phase' stop halts passes)
 ending_on program t rest began phase phase' stop passes (Spent b runs fuel) =
     Spent b (runs_on rest phase phase' runs passes) fuel
 ending_on program t rest began phase phase' stop passes (Never b is fuel) =
     Never b (start_on (t == 0) program.main phase phase' is passes) fuel
 
--- a step of another thread keeps the link
-pub linked_on : (program : Program) (t : ℕ) (rest : Behaviour) (began : Bool) (phase phase' : Phase) (p : Position)
-    → Passes phase phase' → Linked program t rest began phase p → Linked program t rest began phase' p
-linked_on program t rest began phase phase' (Start LoadStart) passes l =
-    (l.0, start_on (t == 0) program.main phase phase' l.1 passes)
-linked_on program t rest began phase phase' (positions.Access (LoadWord loc)) passes l =
-    (l.0, l.1, asking_on rest phase phase' (requests.Load l.0) l.2 passes)
-linked_on program t rest began phase phase' (positions.Access (StoreWord loc value)) passes l =
-    (l.0, l.1, l.2, asking_on rest phase phase' (requests.Store l.0 value) l.3 passes)
-linked_on program t rest began phase phase' (DrawPrint value) passes l =
-    asking_on rest phase phase' (requests.Print value) l passes
-linked_on program t rest began phase phase' (StoreEnded stop) passes l =
-    ending_on program t rest began phase phase' stop passes l
-linked_on program t rest began phase phase' (Over stop) passes l = stopped_on stop phase phase' l passes
-linked_on program t rest began phase phase' NoRow passes l = (l.0, asking_on rest phase phase' l.0 l.1 passes)
+-- of thread u
+module _ (program : Program) (lim : Bounds) (u t : ℕ) (s s' : State) (ne : u ≡ t → ⊥)
+    (passes : Passes (s.threads t) (s'.threads t)) (leaves : Leaves u s s') where
+  sized_on : (at : AllocAt) → IsSized lim s.pages at → IsSized lim s'.pages at
+  sized_on (allocs.LoadPage search) sized = tt
+  sized_on (allocs.SwapPage search) sized = tt
+  sized_on (allocs.LoadBlock search index) sized = leaves.pages (page_in lim search) search.class sized
+  sized_on (allocs.SwapBlock search index life) sized = leaves.pages (page_in lim search) search.class sized
+
+  malloc_on : (rest : Behaviour) (began : Bool) (at : AllocAt)
+      → MallocLinked lim rest began s.pages (s.threads t) at → MallocLinked lim rest began s'.pages (s'.threads t) at
+  malloc_on rest began at l = record {
+    has_begun = l.has_begun;
+    bytes = l.bytes;
+    asking = asking_on rest (s.threads t) (s'.threads t) (requests.Malloc l.bytes) l.asking passes;
+    wanted = l.wanted;
+    reached = l.reached;
+    left = (runs_same rest (s.threads t) (s'.threads t) l.asking.runs passes).left ∙ l.left;
+    sized = sized_on at l.sized;
+  }
+
+  abbrev asked_on : (rest : Behaviour) (began : Bool) (address : ℕ) → FreeAsking rest began s.blocks (s.threads t) address
+      → FreeAsking rest began s'.blocks (s'.threads t) address
+  asked_on rest began address l =
+      let same = runs_same rest (s.threads t) (s'.threads t) l.asking.runs passes in
+      record {
+        has_begun = l.has_begun;
+        asking = asking_on rest (s.threads t) (s'.threads t) (requests.Free address) l.asking passes;
+        older = λ place. omega (arith, ap (λ (f : ℕ → ℕ). f place) same.lives, l.older place, leaves.lives place);
+        none_due = same.none_due l.none_due;
+      }
+
+  saw_on : (rest : Behaviour) (began : Bool) (address place life : ℕ)
+      → FreeSaw rest began s.blocks (s.threads t) address place life
+      → FreeSaw rest began s'.blocks (s'.threads t) address place life
+  saw_on rest began address place life l =
+      let same = runs_same rest (s.threads t) (s'.threads t) l.asks.asking.runs passes in
+      record {
+        asks = asked_on rest began address l.asks;
+        since = omega (arith, ap (λ (f : ℕ → ℕ). f place) same.lives, l.since);
+        before = omega (arith, l.before, leaves.lives place);
+      }
+
+  free_on : (rest : Behaviour) (began : Bool) (at : FreeAt)
+      → FreeLinked lim t rest began s.pages s.blocks (s.threads t) at
+      → FreeLinked lim t rest began s'.pages s'.blocks (s'.threads t) at
+  free_on rest began (frees.LoadPage address) l = asked_on rest began address l
+  free_on rest began (frees.LoadBlock address place) l =
+      (asked_on rest began address l.0, starts_on lim s.pages s'.pages address place leaves.pages l.1)
+  free_on rest began (frees.SwapBlock address place life) l =
+      (saw_on rest began address place life l.0, starts_on lim s.pages s'.pages address place leaves.pages l.1)
+  free_on rest began (frees.StoreFree place life) l = (
+    l.0,
+    asked_on rest began l.0 l.1,
+    starts_on lim s.pages s'.pages l.0 place leaves.pages l.2,
+    leaves.freed t place ne (ap (λ (b : Block). b.state) l.3) ∙ l.3,
+  )
+
+  stands_on : (rest : Behaviour) (began : Bool) (p : Position) → Linked program lim t rest began s p
+      → Linked program lim t rest began s' p
+  stands_on rest began (Start LoadStart) l =
+      (l.0, start_on (t == 0) program.main (s.threads t) (s'.threads t) l.1 passes)
+  stands_on rest began (positions.Access (LoadWord loc)) l =
+      (l.0, l.1, asking_on rest (s.threads t) (s'.threads t) (requests.Load l.0) l.2 passes)
+  stands_on rest began (positions.Access (StoreWord loc value)) l =
+      (l.0, l.1, l.2, asking_on rest (s.threads t) (s'.threads t) (requests.Store l.0 value) l.3 passes)
+  stands_on rest began (Malloc at) l = malloc_on rest began at l
+  stands_on rest began (Free at) l = (free_on rest began at l.0, l.1)
+  stands_on rest began (DrawPrint value) l =
+      asking_on rest (s.threads t) (s'.threads t) (requests.Print value) l passes
+  stands_on rest began (StoreEnded stop) l = ending_on program t rest began (s.threads t) (s'.threads t) stop passes l
+  stands_on rest began (Over stop) l = stopped_on stop (s.threads t) (s'.threads t) l passes
+  stands_on rest began NoRow l = (l.0, asking_on rest (s.threads t) (s'.threads t) l.0 l.1 passes)
+
+  -- a step of another thread keeps the link
+  pub linked_on : (rest : Behaviour) (began : Bool) (cursors : List ℕ) (p : Position)
+      → LinkedAt program lim t rest began s cursors p → LinkedAt program lim t rest began s' cursors p
+  linked_on rest began cursors p l = record {
+    stands = stands_on rest began p l.stands;
+    frees_so = frees_on t u s s' p ne leaves l.frees_so;
+    looks = l.looks;
+  }
 
 -- WHERE A THREAD COMES TO
 
-module _ (program : Program) (lim : Bounds) (t : ℕ) where
+module _ (program : Program) (lim : Bounds) (t : ℕ) (s : State) (cursors : List ℕ) (looks : AreCursors lim cursors) where
   -- a thread that comes to a step, or ends for want of fuel
-  paying_linked : (rest : Behaviour) (units : ℕ) (began : Bool) (phase : Phase) (p : Position)
-      → Linked program t rest began phase p → Ending program t rest began phase Fuel
-      → IsLinked program t phase (paying lim rest units began p)
-  paying_linked rest units began phase p here spent =
-      of_if (IsLinked program t phase) (nat_lt units lim.fuel)
-      (record { rest = rest; position = p; units = units; began = began })
-      (record { rest = rest; position = StoreEnded Fuel; units = units; began = began })
-      here spent
+  pub paying_linked : (rest : Behaviour) (units : ℕ) (began : Bool) (p : Position)
+      → Linked program lim t rest began s p → FreesAt t s.blocks p → Ending program t rest began (s.threads t) Fuel
+      → IsLinked program lim t s (paying lim cursors rest units began p)
+  paying_linked rest units began p here held spent =
+      of_if (IsLinked program lim t s) (nat_lt units lim.fuel)
+      (record { rest = rest; position = p; units = units; began = began; cursors = cursors })
+      (record { rest = rest; position = StoreEnded Fuel; units = units; began = began; cursors = cursors })
+      (record { stands = here; frees_so = held; looks = looks })
+      (record { stands = spent; frees_so = tt; looks = looks })
 
   -- a thread that has not begun and pays for one more load, or ends
-  pub waiting_linked : (rest : Behaviour) (units : ℕ) (began : Bool) (phase : Phase) → began ≡ false
-      → phase ≡ first_phase program t → IsLinked program t phase (standing lim rest units began (Start LoadStart))
-  waiting_linked rest units began phase b is =
-      paying_linked rest units began phase (Start LoadStart) (b, is) (Never b is refl)
+  pub waiting_linked : (rest : Behaviour) (units : ℕ) (began : Bool) → began ≡ false
+      → s.threads t ≡ first_phase program t → FreesNone t s.blocks
+      → IsLinked program lim t s (standing lim cursors rest units began (Start LoadStart))
+  waiting_linked rest units began b is none =
+      paying_linked rest units began (Start LoadStart) (b, is) none (Never b is refl)
 
-  module _ (rest : Behaviour) (phase : Phase) where
-    -- a thread that runs and comes to the step of its request
-    asking_linked : (units : ℕ) (request : Request) (p : Position) → Asking rest phase request
-        → Linked program t rest true phase p → IsLinked program t phase (paying lim rest units true p)
-    asking_linked units request p asking here =
-        paying_linked rest units true phase p here (Spent refl asking.runs refl)
+  -- a thread that runs and goes on with a malloc or a free
+  pub malloc_goes : (rest : Behaviour) (units : ℕ) (began : Bool) (at : AllocAt)
+      → MallocLinked lim rest began s.pages (s.threads t) at → FreesNone t s.blocks
+      → IsLinked program lim t s (standing lim cursors rest units began (Malloc at))
+  malloc_goes rest units began at l none =
+      paying_linked rest units began (Malloc at) l none (Spent l.has_begun l.asking.runs refl)
 
-    -- a thread that runs and asks for what no row is for
-    rowless_linked : (units : ℕ) (request : Request) → Asking rest phase request
-        → IsLinked program t phase (standing lim rest units true NoRow)
-    rowless_linked units request asking = asking_linked units request NoRow asking (request, asking)
+  pub free_goes : (rest : Behaviour) (units : ℕ) (began : Bool) (at : FreeAt)
+      → Linked program lim t rest began s (Free at) → FreesAt t s.blocks (Free at) → began ≡ true
+      → Runs rest (s.threads t) → IsLinked program lim t s (standing lim cursors rest units began (Free at))
+  free_goes rest units began at l held b runs = paying_linked rest units began (Free at) l held (Spent b runs refl)
+
+  -- a thread that runs and comes to its request
+  module _ (walks : Walks) (range : IsInRange lim) (rest : Behaviour) (come : s.threads t ≡ come_to lim s rest)
+      (none : FreesNone t s.blocks) where
+    abbrev fresh : Runs rest (s.threads t)
+    fresh = record { doing = untouched lim s (rest []); going = come; not_spawned = refl; not_ended = refl }
+
+    asking_linked : (units : ℕ) (p : Position) → Linked program lim t rest true s p
+        → IsLinked program lim t s (paying lim cursors rest units true p)
+    asking_linked units p here =
+        paying_linked rest units true p here (frees_anywhere t s.blocks p none) (Spent refl fresh refl)
+
+    -- a thread that asks for what no row is for
+    rowless_linked : (units : ℕ) (request : Request) → Asking rest (s.threads t) request
+        → IsLinked program lim t s (standing lim cursors rest units true NoRow)
+    rowless_linked units request asking = asking_linked units NoRow (request, asking)
+
+    finishing_linked : (units : ℕ) (stop : Stop) → Asking rest (s.threads t) (requests.Stop stop)
+        → IsLinked program lim t s (standing lim cursors rest units true (StoreEnded stop))
+    finishing_linked units stop asking = record { stands = Finishes refl asking; frees_so = tt; looks = looks }
 
     -- a thread that asks for a stop
-    stopping_linked : (units : ℕ) (stop : Stop) → Asking rest phase (requests.Stop stop)
-        → IsLinked program t phase (standing lim rest units true (end_by stop))
+    stopping_linked : (units : ℕ) (stop : Stop) → Asking rest (s.threads t) (requests.Stop stop)
+        → IsLinked program lim t s (standing lim cursors rest units true (end_by stop))
     stopping_linked units Idle asking = rowless_linked units (requests.Stop Idle) asking
     stopping_linked units Running asking = rowless_linked units (requests.Stop Running) asking
-    stopping_linked units (Returned value) asking = Finishes refl asking
-    stopping_linked units (Trap trap) asking = Finishes refl asking
+    stopping_linked units (Returned value) asking = finishing_linked units (Returned value) asking
+    stopping_linked units (Trap trap) asking = finishing_linked units (Trap trap) asking
     stopping_linked units (Full place what) asking = rowless_linked units (requests.Stop (Full place what)) asking
     stopping_linked units Fuel asking = rowless_linked units (requests.Stop Fuel) asking
 
     -- a store has a row where it is of a whole word
     storing_linked : (units value : ℕ) (access : Access) (b : Bool) → is_whole access ≡ b
-        → Asking rest phase (requests.Store access value)
-        → IsLinked program t phase
-        (standing lim rest units true (if b then positions.Access (StoreWord access.loc value) else NoRow))
+        → Asking rest (s.threads t) (requests.Store access value)
+        → IsLinked program lim t s
+        (standing lim cursors rest units true (if b then positions.Access (StoreWord access.loc value) else NoRow))
     storing_linked units value access true whole asking =
-        asking_linked units (requests.Store access value) (positions.Access (StoreWord access.loc value)) asking
-        (access, refl, whole, asking)
+        asking_linked units (positions.Access (StoreWord access.loc value)) (access, refl, whole, asking)
     storing_linked units value access false whole asking = rowless_linked units (requests.Store access value) asking
 
-    -- a thread that runs and stands at its request
-    standing_linked : (units : ℕ) (request : Request) → Asking rest phase request
-        → IsLinked program t phase (standing lim rest units true (position_of request))
-    standing_linked units (requests.Load access) asking =
-        asking_linked units (requests.Load access) (positions.Access (LoadWord access.loc)) asking
-        (access, refl, asking)
-    standing_linked units (requests.Store access value) asking =
-        storing_linked units value access (is_whole access) refl asking
-    standing_linked units (requests.Rmw access op value) asking =
-        rowless_linked units (requests.Rmw access op value) asking
-    standing_linked units (requests.Cas access expected new) asking =
-        rowless_linked units (requests.Cas access expected new) asking
-    standing_linked units (requests.Malloc bytes) asking = rowless_linked units (requests.Malloc bytes) asking
-    standing_linked units (requests.Free address) asking = rowless_linked units (requests.Free address) asking
-    standing_linked units (requests.Note loc value) asking = rowless_linked units (requests.Note loc value) asking
-    standing_linked units (requests.Print value) asking =
-        asking_linked units (requests.Print value) (DrawPrint value) asking asking
-    standing_linked units (requests.Spawn loc function arg) asking =
-        rowless_linked units (requests.Spawn loc function arg) asking
-    standing_linked units (requests.Join number) asking = rowless_linked units (requests.Join number) asking
-    standing_linked units (requests.Stop stop) asking = stopping_linked units stop asking
+    -- a malloc begins with all places of its class
+    taking_linked : (units bytes begun : ℕ) (place : Place) (class : Option ℕ)
+        → rest [] ≡ Asks begun place (requests.Malloc bytes) → class_of bytes ≡ class
+        → IsLinked program lim t s (standing lim cursors rest units true (looking_for cursors class))
+    taking_linked units bytes begun place None asks is =
+        rowless_linked units (requests.Malloc bytes)
+        (record { runs = fresh; begun = begun; place = place; asks = asks })
+    taking_linked units bytes begun place (Some class) asks is =
+        let first = slice_index cursors class in
+        let known = walks.begin lim class first range (looks.each class (walks.few bytes class is)) in
+        asking_linked units (Malloc (allocs.LoadPage (search_from class first))) (record {
+          has_begun = refl;
+          bytes = bytes;
+          asking = record { runs = fresh; begun = begun; place = place; asks = asks };
+          wanted = is;
+          reached = known.0;
+          left = ap (first_left lim) asks ∙ (ap (places_wanted lim) is ∙ sym known.1);
+          sized = tt;
+        })
 
-    -- a thread that runs and comes to its request
-    pub arriving_linked : (units : ℕ) (asked : Asked) → rest [] ≡ asked → Runs rest phase
-        → IsLinked program t phase (arriving lim rest units asked)
-    arriving_linked units (Asks begun place request) asks runs =
-        of_if (IsLinked program t phase) (nat_le (units + begun) lim.fuel)
-        (standing lim rest (units + begun) true (position_of request))
-        (record { rest = rest; position = StoreEnded Fuel; units = lim.fuel; began = true })
-        (standing_linked (units + begun) request
-        (record { runs = runs; begun = begun; place = place; asks = asks }))
-        (Spent refl runs refl)
-    arriving_linked units Silent asks runs = Spent refl runs refl
+    -- a free begins with no life fallen and nothing due
+    freeing_linked : (units address begun : ℕ) (place : Place) (b : Bool)
+        → rest [] ≡ Asks begun place (requests.Free address) → is_freeable lim address ≡ b
+        → IsLinked program lim t s (standing lim cursors rest units true
+        (if b then Free (frees.LoadPage address) else NoRow))
+    freeing_linked units address begun place true asks is =
+        asking_linked units (Free (frees.LoadPage address)) (
+          record {
+            has_begun = refl;
+            asking = record { runs = fresh; begun = begun; place = place; asks = asks };
+            older = λ place. omega arith;
+            none_due = refl;
+          },
+          is,
+        )
+    freeing_linked units address begun place false asks is =
+        rowless_linked units (requests.Free address)
+        (record { runs = fresh; begun = begun; place = place; asks = asks })
+
+    -- a thread that runs and stands at its request
+    standing_linked : (units begun : ℕ) (place : Place) (request : Request) → rest [] ≡ Asks begun place request
+        → IsLinked program lim t s (standing lim cursors rest units true (position_of lim cursors request))
+    standing_linked units begun place (requests.Load access) asks =
+        asking_linked units (positions.Access (LoadWord access.loc))
+        (access, refl, record { runs = fresh; begun = begun; place = place; asks = asks })
+    standing_linked units begun place (requests.Store access value) asks =
+        storing_linked units value access (is_whole access) refl
+        (record { runs = fresh; begun = begun; place = place; asks = asks })
+    standing_linked units begun place (requests.Rmw access op value) asks =
+        rowless_linked units (requests.Rmw access op value)
+        (record { runs = fresh; begun = begun; place = place; asks = asks })
+    standing_linked units begun place (requests.Cas access expected new) asks =
+        rowless_linked units (requests.Cas access expected new)
+        (record { runs = fresh; begun = begun; place = place; asks = asks })
+    standing_linked units begun place (requests.Malloc bytes) asks =
+        taking_linked units bytes begun place (class_of bytes) asks refl
+    standing_linked units begun place (requests.Free address) asks =
+        freeing_linked units address begun place (is_freeable lim address) asks refl
+    standing_linked units begun place (requests.Note loc value) asks =
+        rowless_linked units (requests.Note loc value)
+        (record { runs = fresh; begun = begun; place = place; asks = asks })
+    standing_linked units begun place (requests.Print value) asks =
+        asking_linked units (DrawPrint value) (record { runs = fresh; begun = begun; place = place; asks = asks })
+    standing_linked units begun place (requests.Spawn loc function arg) asks =
+        rowless_linked units (requests.Spawn loc function arg)
+        (record { runs = fresh; begun = begun; place = place; asks = asks })
+    standing_linked units begun place (requests.Join number) asks =
+        rowless_linked units (requests.Join number)
+        (record { runs = fresh; begun = begun; place = place; asks = asks })
+    standing_linked units begun place (requests.Stop stop) asks =
+        stopping_linked units stop (record { runs = fresh; begun = begun; place = place; asks = asks })
+
+    arriving_linked : (units : ℕ) (asked : Asked) → rest [] ≡ asked
+        → IsLinked program lim t s (arriving lim cursors rest units asked)
+    arriving_linked units (Asks begun place request) asks =
+        of_if (IsLinked program lim t s) (nat_le (units + begun) lim.fuel)
+        (standing lim cursors rest (units + begun) true (position_of lim cursors request))
+        (record { rest = rest; position = StoreEnded Fuel; units = lim.fuel; began = true; cursors = cursors })
+        (standing_linked (units + begun) begun place request asks)
+        (record { stands = Spent refl fresh refl; frees_so = tt; looks = looks })
+    arriving_linked units Silent asks =
+        record { stands = Spent refl fresh refl; frees_so = tt; looks = looks }
+
+    pub going_linked : (units : ℕ) → IsLinked program lim t s (going_on lim cursors units rest)
+    going_linked units = arriving_linked units (rest []) refl

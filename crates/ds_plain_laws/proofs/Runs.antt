@@ -5,7 +5,7 @@ use Rattle.std.proofs.Common.{List, [], ◌∷◌, length, take, refl, sym, ap, 
 use Rattle.std.proofs.lemmas.Bool.{cases_eq, cases_lt, eq-eqb, ne_eqb, eqb-true, and_parts}
 use Rattle.std.proofs.lemmas.List.{length-set, get_or_past}
 use Rattle.ds_map.specs.Bounds.{Bounds, IsInRange}
-use Rattle.ds_map.specs.Words.{first_words}
+use Rattle.ds_map.specs.Words.{first_program_word, first_words}
 use Rattle.ds_step.specs.declared.Event.{Event}
 use Rattle.ds_step.specs.declared.Event.TheVariants as events
 use Rattle.ds_step.specs.declared.Step.{Step}
@@ -14,18 +14,21 @@ use Rattle.ds_plain.specs.declared.Stop.{Stop}
 use Rattle.ds_plain.specs.declared.StartAt.TheVariants.{LoadStart}
 use Rattle.ds_plain.specs.declared.AccessAt.TheVariants.{LoadWord, StoreWord}
 use Rattle.ds_plain.specs.declared.Position.{Position}
-use Rattle.ds_plain.specs.declared.Position.TheVariants.{Start, Access, DrawPrint, StoreEnded, Over, NoRow}
+use Rattle.ds_plain.specs.declared.Position.TheVariants.{Start, Access, Malloc, Free, DrawPrint, StoreEnded, Over, NoRow}
 use Rattle.ds_plain.specs.Behaviour.{Behaviour, silent, Program}
-use Rattle.ds_plain.specs.State.{State, Setting, first_state, first_phase, replaced, stop_of_phase}
+use Rattle.ds_plain.specs.State.{State, Setting, first_state, replaced, stop_of_phase}
 use Rattle.ds_plain.specs.Plain.{Allowed, changed, IsPlainRun, state_after}
 use Rattle.ds_plain.specs.Table.{begins, op_at, event_at, is_over}
-use Rattle.ds_plain.specs.Thread.{Thread, first_thread, moved, moved_from, Follows, thread_after, stop_of}
+use Rattle.ds_plain.specs.Thread.{Thread, first_cursors, first_thread, moved, moved_from, Follows, thread_after, stop_of}
 use Rattle.ds_plain.specs.History.{History, steps_of, Interleaves, IsLegal, words_left, is_log, erase}
 use Rattle.ds_plain.specs.Explained.{Agrees, is_fuel, stop_in, setting_of, IsRecord, IsLegalRun, IsExplained}
 use Rattle.ds_plain_laws.proofs.Choices.{replaced_same, replaced_other}
 use Rattle.ds_plain_laws.proofs.Words.{agrees_first, roomy_first}
-use Rattle.ds_plain_laws.proofs.Links.{IsLinked, Linked, linked_on, linked_stop, waiting_linked}
-use Rattle.ds_plain_laws.proofs.Makes.{Makes, start_makes, print_makes, load_word_makes, store_word_makes, end_makes}
+use Rattle.ds_plain_laws.proofs.Leaving.{frees_first}
+use Rattle.ds_plain_laws.proofs.Links.{Walks, LinkedAt, IsLinked, linked_on, linked_stop, waiting_linked}
+use Rattle.ds_plain_laws.proofs.Makes.{Makes, Before, start_makes, print_makes, load_word_makes, store_word_makes, end_makes}
+use Rattle.ds_plain_laws.proofs.Mallocs.{malloc_makes}
+use Rattle.ds_plain_laws.proofs.Frees.{free_makes}
 use Rattle.ds_plain_laws.proofs.Counts.{over_rest, standing_pays, trace_length, history_length}
 
 -- The words, the plain state and the threads go together, and what is left of the history is legal, follows the step
@@ -33,8 +36,9 @@ use Rattle.ds_plain_laws.proofs.Counts.{over_rest, standing_pays, trace_length, 
 pub record Keeps (program : Program) (lim : Bounds) (stops : List Stop) (h : History) (words : List ℕ) (s : State)
     (threads : ℕ → Thread) : Type 0 where
   pub agrees : Agrees lim words s
-  pub roomy : 2 < length words
-  pub linked : (t : ℕ) → IsLinked program t (s.threads t) (threads t)
+  pub roomy : first_program_word lim ≤ length words
+  pub none_noted : s.noted ≡ []
+  pub linked : (t : ℕ) → IsLinked program lim t s (threads t)
   pub legal : IsLegal words h
   pub follows : (t : ℕ) → Follows program lim t (threads t) (steps_of t h)
   pub ends : (t : ℕ) → t < 16 → stop_in stops t ≡ stop_of (thread_after program lim t (threads t) (steps_of t h))
@@ -56,34 +60,40 @@ begins_main : (t old : ℕ) → begins t old ≡ true → t ≡ 0
 begins_main t old h = eqb-true t 0 (and_parts (t == 0) (old == 1) h).0
 
 module _ (program : Program) (lim : Bounds) (stops : List Stop) (t : ℕ) (words : List ℕ) (s : State)
-    (agrees : Agrees lim words s) where
-  makes_at : (p : Position) (rest : Behaviour) (units old : ℕ) (began : Bool) (ss : List Step) → t < 16
-      → 2 < length words → length s.out + 1 < 2 ^ 64 → is_over p ≡ false → old ≡ answer_on words (op_at lim t p)
-      → Linked program t rest began (s.threads t) p
-      → Follows program lim t
-      (moved_from program lim t (record { rest = rest; position = p; units = units; began = began }) p old) ss
-      → stop_in stops t ≡ stop_of
-      (thread_after program lim t
-      (moved_from program lim t (record { rest = rest; position = p; units = units; began = began }) p old) ss)
-      → Makes (setting_of program lim stops) t words s (op_at lim t p) (event_at t p old)
-      (changed (setting_of program lim stops) s t (event_at t p old))
-      (moved_from program lim t (record { rest = rest; position = p; units = units; began = began }) p old)
-  makes_at (Start LoadStart) rest units old began ss within roomy few over is l follows ends =
-      start_makes (setting_of program lim stops) t words s agrees (begins t old) rest units began
+    (before : Before (setting_of program lim stops) words s) where
+  makes_at : (p : Position) (rest : Behaviour) (units old : ℕ) (began : Bool) (cursors : List ℕ) (ss : List Step)
+      → t < 16 → length s.out + 1 < 2 ^ 64 → is_over p ≡ false → old ≡ answer_on words (op_at lim t p)
+      → LinkedAt program lim t rest began s cursors p
+      → Follows program lim t (moved_from program lim t
+      (record { rest = rest; position = p; units = units; began = began; cursors = cursors }) p old) ss
+      → stop_in stops t ≡ stop_of (thread_after program lim t (moved_from program lim t
+      (record { rest = rest; position = p; units = units; began = began; cursors = cursors }) p old) ss)
+      → Makes (setting_of program lim stops) t words s (op_at lim t p) (event_at lim t p old)
+      (changed (setting_of program lim stops) s t (event_at lim t p old))
+      (moved_from program lim t
+      (record { rest = rest; position = p; units = units; began = began; cursors = cursors }) p old)
+  makes_at (Start LoadStart) rest units old began cursors ss within few over is l follows ends =
+      start_makes (setting_of program lim stops) t words s before rest units began cursors (begins t old)
       (begins_main t old) l
-  makes_at (Access (LoadWord loc)) rest units old began ss within roomy few over is l follows ends =
-      load_word_makes (setting_of program lim stops) t words s agrees loc rest units old began is l
-  makes_at (Access (StoreWord loc value)) rest units old began ss within roomy few over is l follows ends =
-      store_word_makes (setting_of program lim stops) t words s agrees loc value rest units began l
-  makes_at (DrawPrint value) rest units old began ss within roomy few over is l follows ends =
-      print_makes (setting_of program lim stops) t words s agrees value rest units old began roomy few is l
-  makes_at (StoreEnded stop) rest units old began ss within roomy few over is l follows ends =
-      let a : Thread = record { rest = rest; position = Over stop; units = units; began = began } in
+  makes_at (Access (LoadWord loc)) rest units old began cursors ss within few over is l follows ends =
+      load_word_makes (setting_of program lim stops) t words s before rest units began cursors loc old is l
+  makes_at (Access (StoreWord loc value)) rest units old began cursors ss within few over is l follows ends =
+      store_word_makes (setting_of program lim stops) t words s before rest units began cursors loc value l
+  makes_at (Malloc at) rest units old began cursors ss within few over is l follows ends =
+      malloc_makes (setting_of program lim stops) t words s before rest units began cursors at old is l
+  makes_at (Free at) rest units old began cursors ss within few over is l follows ends =
+      free_makes (setting_of program lim stops) t words s before rest units began cursors at old is l
+  makes_at (DrawPrint value) rest units old began cursors ss within few over is l follows ends =
+      print_makes (setting_of program lim stops) t words s before rest units began cursors value old few is l
+  makes_at (StoreEnded stop) rest units old began cursors ss within few over is l follows ends =
+      let a : Thread =
+      record { rest = rest; position = Over stop; units = units; began = began; cursors = cursors } in
       let recorded : stop_in stops t ≡ stop =
       ends ∙ ap (λ ss. stop_of (thread_after program lim t a ss)) (over_rest program lim t a ss refl follows) in
-      end_makes (setting_of program lim stops) t words s agrees stop rest units began within (ap is_fuel recorded) l
-  makes_at (Over stop) rest units old began ss within roomy few over is l follows ends = absurd (cc (over))
-  makes_at NoRow rest units old began ss within roomy few over is l follows ends = absurd (cc (over))
+      end_makes (setting_of program lim stops) t words s before rest units began cursors stop within
+      (ap is_fuel recorded) l
+  makes_at (Over stop) rest units old began cursors ss within few over is l follows ends = absurd (cc (over))
+  makes_at NoRow rest units old began cursors ss within few over is l follows ends = absurd (cc (over))
 
 module _ (setting : Setting) (s : State) (t : ℕ) where
   plain_more : (event : Event) (es : List (ℕ × Event)) → (is_log event ≡ false → Allowed setting s t event)
@@ -98,8 +108,8 @@ module _ (setting : Setting) (s : State) (t : ℕ) where
   state_more events.Log es = refl
   state_more event es = refl
 
-module _ (program : Program) (lim : Bounds) (stops : List Stop) (e : ℕ × Step) (h : History) (words : List ℕ)
-    (s : State) (threads : ℕ → Thread)
+module _ (walks : Walks) (program : Program) (lim : Bounds) (range : IsInRange lim) (stops : List Stop) (e : ℕ × Step)
+    (h : History) (words : List ℕ) (s : State) (threads : ℕ → Thread)
     (keeps : Keeps program lim stops (e ∷ h) words s threads) where
   abbrev thread : Thread
   thread = moved program lim e.0 (threads e.0) e.1.old
@@ -138,18 +148,25 @@ module _ (program : Program) (lim : Bounds) (stops : List Stop) (e : ℕ × Step
       let answer : e.1.old ≡ answer_on words (op_at lim e.0 a.position) =
       keeps.legal.0 ∙ ap (λ (st : Step). answer_on words st.op) follows_here.1 in
       let few : length s.out + 1 < 2 ^ 64 = omega (arith, keeps.few) in
+      let before : Before setting words s = record {
+        walks = walks;
+        range = range;
+        agrees = keeps.agrees;
+        roomy = keeps.roomy;
+        none_noted = keeps.none_noted;
+      } in
       subst (λ (st : Step). Makes setting e.0 words s st.op st.event (changed setting s e.0 st.event) thread)
       (sym follows_here.1)
-      (makes_at program lim stops e.0 words s keeps.agrees a.position a.rest a.units e.1.old a.began
-      (steps_of e.0 h) within keeps.roomy few follows_here.0 answer (keeps.linked e.0) follows_here.2 ends_here)
+      (makes_at program lim stops e.0 words s before a.position a.rest a.units e.1.old a.began a.cursors
+      (steps_of e.0 h) within few follows_here.0 answer (keeps.linked e.0) follows_here.2 ends_here)
 
-  links_on : (u : ℕ) → ((e.0 ≡ u) ⊎ (e.0 ≡ u → ⊥)) → IsLinked program u (state.threads u) (threads' u)
-  links_on u (inl is) = subst (λ u. IsLinked program u (state.threads u) (threads' u)) is
-      (subst (IsLinked program e.0 (state.threads e.0)) (sym (replaced_same threads e.0 thread)) makes.linked)
+  links_on : (u : ℕ) → ((e.0 ≡ u) ⊎ (e.0 ≡ u → ⊥)) → IsLinked program lim u state (threads' u)
+  links_on u (inl is) = subst (λ u. IsLinked program lim u state (threads' u)) is
+      (subst (IsLinked program lim e.0 state) (sym (replaced_same threads e.0 thread)) makes.linked)
   links_on u (inr ne) =
       let a : Thread = threads u in
-      subst (IsLinked program u (state.threads u)) (sym (replaced_other threads e.0 thread u ne))
-      (linked_on program u a.rest a.began (s.threads u) (state.threads u) a.position (makes.others u ne)
+      subst (IsLinked program lim u state) (sym (replaced_other threads e.0 thread u ne))
+      (linked_on program lim e.0 u s state ne (makes.others u ne) makes.leaves a.rest a.began a.cursors a.position
       (keeps.linked u))
 
   follows_on : (u : ℕ) → ((e.0 ≡ u) ⊎ (e.0 ≡ u → ⊥)) → Follows program lim u (threads' u) (steps_of u h)
@@ -175,6 +192,7 @@ module _ (program : Program) (lim : Bounds) (stops : List Stop) (e : ℕ × Step
   keeps_on = record {
     agrees = makes.agrees;
     roomy = omega (arith, keeps.roomy, length-set {A = ℕ});
+    none_noted = makes.leaves.noted ∙ keeps.none_noted;
     linked = λ u. links_on u (cases_eq e.0 u);
     legal = keeps.legal.1;
     follows = λ u. follows_on u (cases_eq e.0 u);
@@ -183,14 +201,14 @@ module _ (program : Program) (lim : Bounds) (stops : List Stop) (e : ℕ × Step
     few = omega (arith, makes.prints, keeps.few);
   }
 
-module _ (program : Program) (lim : Bounds) (stops : List Stop) where
+module _ (walks : Walks) (program : Program) (lim : Bounds) (range : IsInRange lim) (stops : List Stop) where
   pub explains : (h : History) (words : List ℕ) (s : State) (threads : ℕ → Thread)
       → Keeps program lim stops h words s threads → Explains program lim stops h words s
   explains [] words s threads keeps = record {
     plain = tt;
     agrees = now;
-    ends = λ t lt. keeps.ends t lt ∙ linked_stop program t (threads t).rest (threads t).began (s.threads t)
-        (threads t).position (keeps.linked t);
+    ends = λ t lt. keeps.ends t lt ∙ linked_stop program lim t (threads t).rest (threads t).began s
+        (threads t).position (keeps.linked t).stands;
   }
     where
       now : (k : ℕ) → Agrees lim (words_left words (take k []))
@@ -200,13 +218,13 @@ module _ (program : Program) (lim : Bounds) (stops : List Stop) where
   explains (e ∷ h) words s threads keeps =
       then_more (explains h (words_after words e.1.op) (changed (setting_of program lim stops) s e.0 e.1.event)
       (replaced threads e.0 (moved program lim e.0 (threads e.0) e.1.old))
-      (keeps_on program lim stops e h words s threads keeps))
+      (keeps_on walks program lim range stops e h words s threads keeps))
     where
       then_more : Explains program lim stops h (words_after words e.1.op)
           (changed (setting_of program lim stops) s e.0 e.1.event) → Explains program lim stops (e ∷ h) words s
       then_more rest = record {
         plain = plain_more (setting_of program lim stops) s e.0 e.1.event (erase h)
-            (makes program lim stops e h words s threads keeps).allowed rest.plain;
+            (makes walks program lim range stops e h words s threads keeps).allowed rest.plain;
         agrees = elim [
           | zero ↦ keeps.agrees
           | suc k ↦
@@ -218,8 +236,8 @@ module _ (program : Program) (lim : Bounds) (stops : List Stop) where
       }
 
 -- from the start
-module _ (program : Program) (lim : Bounds) (stops : List Stop) (traces : List (List Step)) (range : IsInRange lim)
-    (known : IsRecord program lim stops traces) (h : History) (takes : Interleaves traces h)
+module _ (walks : Walks) (program : Program) (lim : Bounds) (stops : List Stop) (traces : List (List Step))
+    (range : IsInRange lim) (known : IsRecord program lim stops traces) (h : History) (takes : Interleaves traces h)
     (legal : IsLegalRun program lim h) where
   none_past : (t : ℕ) → 16 ≤ t → steps_of t h ≡ []
   none_past t le = takes t ∙ get_or_past traces t [] (omega (arith, known.sixteen_traces))
@@ -236,8 +254,9 @@ module _ (program : Program) (lim : Bounds) (stops : List Stop) (traces : List (
   few_steps : (t : ℕ) → length (steps_of t h) ≤ lim.fuel + 1
   few_steps t =
       let a = first_thread lim in
-      let bound = trace_length program lim t (steps_of t h) a.rest a.position a.units a.began
-      (standing_pays lim silent 0 false (Start LoadStart) (omega arith)).paid (follows_all t (cases_lt t 16)) in
+      let bound = trace_length program lim t (steps_of t h) a.rest a.position a.units a.began a.cursors
+      (standing_pays lim first_cursors silent 0 false (Start LoadStart) (omega arith)).paid
+      (follows_all t (cases_lt t 16)) in
       omega (arith, bound)
 
   keeps_first : Keeps program lim stops h (first_words lim program.image) (first_state program lim)
@@ -245,7 +264,9 @@ module _ (program : Program) (lim : Bounds) (stops : List Stop) (traces : List (
   keeps_first = record {
     agrees = agrees_first program lim;
     roomy = roomy_first lim program.image;
-    linked = λ t. waiting_linked program lim t silent 0 false (first_phase program t) refl refl;
+    none_noted = refl;
+    linked = λ t. waiting_linked program lim t (first_state program lim) first_cursors (walks.start lim range) silent 0 false refl
+        refl (frees_first t);
     legal = legal;
     follows = λ t. follows_all t (cases_lt t 16);
     ends = ends_all;
@@ -255,7 +276,7 @@ module _ (program : Program) (lim : Bounds) (stops : List Stop) (traces : List (
 
   pub explained : IsExplained program lim stops h
   explained =
-      let run = explains program lim stops h (first_words lim program.image) (first_state program lim)
+      let run = explains walks program lim range stops h (first_words lim program.image) (first_state program lim)
       (λ t. first_thread lim) keeps_first in
       record {
         plain = run.plain;

@@ -1,6 +1,8 @@
 -- What a step does to the words, and that they go on to say what the plain state says.
 use Rattle.std.proofs.Common.{◌≡◌, ℕ, ◌+◌, ◌-◌, ◌*◌, ◌%◌, ◌^◌, ◌<◌, ◌≤◌, List, [], ◌∷◌, ◌++◌, length, drop, replicate}
-use Rattle.std.proofs.Common.{slice_index, slice_set, refl, sym, ap, ◌∙◌, subst, arith, mod-eq_of_lt}
+use Rattle.std.proofs.Common.{slice_index, slice_set, suc, Some, refl, sym, ap, ◌∙◌, subst, inl, inr, ◌⊎◌, arith}
+use Rattle.std.proofs.Common.{mod-eq_of_lt}
+use Rattle.std.proofs.lemmas.Bool.{cases_eq, eq-eqb, ne_eqb}
 use Rattle.std.proofs.lemmas.List.{append_assoc, length-append, length-replicate, length_push, drop_at, drop-set-lt}
 use Rattle.std.proofs.lemmas.List.{drop-set-add, get_or-drop, get_or-set_same, get_or-set_other, set-get_or}
 use Rattle.std.proofs.lemmas.List.{get_or_append_left, get_or-append_right, get_or-replicate}
@@ -9,10 +11,13 @@ use Rattle.ds_map.specs.Regions.{program_words}
 use Rattle.ds_map.specs.Blocks.{page_word}
 use Rattle.ds_map.specs.Words.{control_words, first_page_word, first_block_word, first_home_word, first_program_word}
 use Rattle.ds_map.specs.Words.{word_of, first_control_words, first_words}
+use Rattle.ds_step.specs.declared.OpKind.TheVariants.{Cas}
+use Rattle.ds_step.specs.Word.{written_by}
 use Rattle.ds_plain.specs.Behaviour.{Program}
-use Rattle.ds_plain.specs.State.{State, first_state, block_word}
+use Rattle.ds_plain.specs.State.{Block, State, first_state, block_word, replaced}
 use Rattle.ds_plain.specs.Table.{prints_word}
 use Rattle.ds_plain.specs.Explained.{Agrees}
+use Rattle.ds_plain_laws.proofs.Choices.{replaced_same, replaced_other}
 
 -- the counts, the pages and the blocks are the same in both states
 pub record SameTables (s s' : State) : Type 0 where
@@ -91,6 +96,75 @@ module _ (lim : Bounds) (words : List ℕ) (s s' : State) (agrees : Agrees lim w
             ∙ (agrees.program ∙ sym words_same);
       }
 
+  -- a page is given a class
+  pub agrees_sized : (page class : ℕ) → page < lim.pages → first_program_word lim ≤ length words → s'.given ≡ s.given
+      → s'.out ≡ s.out → s'.pages ≡ replaced s.pages page (Some class) → s'.blocks ≡ s.blocks → s'.words ≡ s.words
+      → Agrees lim (slice_set words (first_page_word + page) (suc class)) s'
+  agrees_sized page class lt roomy given out pages blocks words_same =
+      let i : ℕ = first_page_word + page in
+      record {
+        given = get_or-set_other words i 1 (suc class) 0 (omega arith) ∙ (agrees.given ∙ sym given);
+        prints = get_or-set_other words i 2 (suc class) 0 (omega arith) ∙ (agrees.prints ∙ sym (ap length out));
+        pages = λ page' lt'. sized page' lt' (cases_eq page page') ∙ ap (λ pages. page_word (pages page')) (sym pages);
+        blocks = λ place lt'.
+            get_or-set_other words i (first_block_word lim + place) (suc class) 0 (omega (arith, lt))
+            ∙ (agrees.blocks place lt' ∙ ap (λ blocks. block_word (blocks place)) (sym blocks));
+        program = drop-set-lt (first_program_word lim) words i (suc class) (omega (arith, lt))
+            ∙ (agrees.program ∙ sym words_same);
+      }
+    where
+      sized : (page' : ℕ) → page' < lim.pages → ((page ≡ page') ⊎ (page ≡ page' → ⊥))
+          → slice_index (slice_set words (first_page_word + page) (suc class)) (first_page_word + page')
+          ≡ page_word (replaced s.pages page (Some class) page')
+      sized page' lt' (inl e) = subst (λ p. slice_index (slice_set words (first_page_word + page) (suc class))
+          (first_page_word + p) ≡ page_word (replaced s.pages page (Some class) p)) e
+          (get_or-set_same words (first_page_word + page) (suc class) 0 (omega (arith, lt, roomy))
+          ∙ ap page_word (sym (replaced_same s.pages page (Some class))))
+      sized page' lt' (inr ne) =
+          get_or-set_other words (first_page_word + page) (first_page_word + page') (suc class) 0
+          (λ e. ne (omega (arith, e)))
+          ∙ (agrees.pages page' lt' ∙ ap page_word (sym (replaced_other s.pages page (Some class) page' ne)))
+
+  -- a block is changed
+  pub agrees_changed : (place : ℕ) (block : Block) → place < 256 * lim.pages → first_program_word lim ≤ length words
+      → s'.given ≡ s.given → s'.out ≡ s.out → s'.pages ≡ s.pages → s'.blocks ≡ replaced s.blocks place block
+      → s'.words ≡ s.words → Agrees lim (slice_set words (first_block_word lim + place) (block_word block)) s'
+  agrees_changed place block lt roomy given out pages blocks words_same =
+      let i : ℕ = first_block_word lim + place in
+      let v : ℕ = block_word block in
+      record {
+        given = get_or-set_other words i 1 v 0 (omega arith) ∙ (agrees.given ∙ sym given);
+        prints = get_or-set_other words i 2 v 0 (omega arith) ∙ (agrees.prints ∙ sym (ap length out));
+        pages = λ page lt'.
+            get_or-set_other words i (first_page_word + page) v 0 (omega (arith, lt'))
+            ∙ (agrees.pages page lt' ∙ ap (λ pages. page_word (pages page)) (sym pages));
+        blocks = λ place' lt'. becomes place' lt' (cases_eq place place')
+            ∙ ap (λ blocks. block_word (blocks place')) (sym blocks);
+        program = drop-set-lt (first_program_word lim) words i v (omega (arith, lt))
+            ∙ (agrees.program ∙ sym words_same);
+      }
+    where
+      becomes : (place' : ℕ) → place' < 256 * lim.pages → ((place ≡ place') ⊎ (place ≡ place' → ⊥))
+          → slice_index (slice_set words (first_block_word lim + place) (block_word block))
+          (first_block_word lim + place') ≡ block_word (replaced s.blocks place block place')
+      becomes place' lt' (inl e) =
+          subst (λ p. slice_index (slice_set words (first_block_word lim + place) (block_word block))
+          (first_block_word lim + p) ≡ block_word (replaced s.blocks place block p)) e
+          (get_or-set_same words (first_block_word lim + place) (block_word block) 0 (omega (arith, lt, roomy))
+          ∙ ap block_word (sym (replaced_same s.blocks place block)))
+      becomes place' lt' (inr ne) =
+          get_or-set_other words (first_block_word lim + place) (first_block_word lim + place') (block_word block) 0
+          (λ e. ne (omega (arith, e)))
+          ∙ (agrees.blocks place' lt' ∙ ap block_word (sym (replaced_other s.blocks place block place' ne)))
+
+-- a compare-and-swap that finds another value leaves the word as it is
+pub swap_kept : (a b n : ℕ) → (n ≡ a → ⊥) → written_by Cas a b n ≡ n
+swap_kept a b n ne = rw (ne_eqb n a ne) refl
+
+-- and one that finds its value writes
+pub swap_made : (a b n : ℕ) → n ≡ a → written_by Cas a b n ≡ b
+swap_made a b n e = rw (eq-eqb n a e) refl
+
 -- the word of a location is the plain word there
 pub program_word : (lim : Bounds) (words : List ℕ) (s : State) → Agrees lim words s → (loc : ℕ)
     → slice_index words (word_of lim loc) ≡ slice_index s.words loc
@@ -118,10 +192,12 @@ between front image rest n k le lt =
     ∙ (get_or-append_right front (replicate n 0) (length front) k 0 refl le
     ∙ get_or-replicate n (k - length front) 0 0 (omega arith)))
 
-longer : (front zeros image rest : List ℕ) → 2 < length front → 2 < length (front ++ zeros ++ image ++ rest)
-longer front zeros image rest lt =
+longer : (front zeros image rest : List ℕ) (n : ℕ) → length front + length zeros ≡ n
+    → n ≤ length (front ++ zeros ++ image ++ rest)
+longer front zeros image rest n is =
     omega (
       arith,
+      is,
       length-append (front ++ zeros ++ image) rest,
       length-append (front ++ zeros) image,
       length-append front zeros,
@@ -162,7 +238,8 @@ agrees_first program lim = record {
   program = program_first lim program.image;
 }
 
-pub roomy_first : (lim : Bounds) (image : List ℕ) → 2 < length (first_words lim image)
+pub roomy_first : (lim : Bounds) (image : List ℕ) → first_program_word lim ≤ length (first_words lim image)
 unfolding first_words
 roomy_first lim image =
-    longer first_control_words (padding lim) image (replicate (program_words lim - length image) 0) (omega arith)
+    longer first_control_words (padding lim) image (replicate (program_words lim - length image) 0)
+    (first_program_word lim) (omega (arith, length-replicate {A = ℕ} (first_program_word lim - control_words) 0))

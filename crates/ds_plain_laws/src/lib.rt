@@ -6,6 +6,10 @@
 
 ghost use Rattle.ds_plain_laws.specs.Laws.{NothingStands, OneStepMore, StandingIsRecorded, LegalRunsArePlain};
 
+use ds_alloc_laws::{
+    classes_are_few, cursors_begin, cursors_move, mallocs_begin, mallocs_have_left, mallocs_look_on,
+};
+
 /// Before any step the empty history stands: it is legal and leaves the first words.
 pub fn nothing_stands()
     ensures { NothingStands }
@@ -26,4 +30,11 @@ pub fn standing_is_recorded()
 /// machine, which the words agree with at every moment, and which ends as the record says.
 pub fn legal_runs_are_plain()
     ensures { LegalRunsArePlain }
-{}
+{
+    classes_are_few();
+    mallocs_begin();
+    mallocs_look_on();
+    mallocs_have_left();
+    cursors_begin();
+    cursors_move();
+}
