@@ -4,17 +4,22 @@ use Rattle.ds_map.specs.Bounds.{Bounds, bounds}
 use Rattle.ds_step.specs.declared.Step.{Step}
 use Rattle.ds_plain.specs.declared.Place.{Place}
 use Rattle.ds_plain.specs.declared.Stop.{Stop}
-use Rattle.ds_plain.specs.declared.Stop.TheVariants.{Returned, Fuel}
+use Rattle.ds_plain.specs.declared.Stop.TheVariants.{Returned, Trap, Fuel}
 use Rattle.ds_plain.specs.declared.Request.TheVariants as requests
 use Rattle.ds_plain.specs.declared.StartAt.TheVariants.{LoadStart}
 use Rattle.ds_plain.specs.declared.AccessAt.TheVariants.{LoadWord}
+use Rattle.ds_plain.specs.declared.AllocAt.TheVariants as allocs
+use Rattle.ds_plain.specs.declared.FreeAt.TheVariants as frees
+use Rattle.ds_plain.specs.declared.Search.{Search}
+use Rattle.ds_plain.specs.declared.TrapKind.TheVariants.{BadFree}
 use Rattle.ds_plain.specs.declared.Position.{Position}
-use Rattle.ds_plain.specs.declared.Position.TheVariants.{Start, StoreEnded}
+use Rattle.ds_plain.specs.declared.Position.TheVariants.{Start, Malloc, Free, StoreEnded}
 use Rattle.ds_plain.specs.declared.Position.TheVariants as positions
 use Rattle.ds_plain.specs.Behaviour.{Asks, Behaviour, silent, Program}
+use Rattle.ds_plain.specs.Searching.{search_from}
 use Rattle.ds_plain.specs.Table.{step_at}
 use Rattle.ds_plain.specs.Thread.{Thread, first_thread, Follows, thread_after, stop_of}
-use Rattle.ds_fuel_laws.specs.Fuel.{next_price, paid_by}
+use Rattle.ds_fuel_laws.specs.Fuel.{price_of, account_of}
 
 -- the program whose main behaves so
 abbrev pub main_with : Behaviour → Program
@@ -43,8 +48,8 @@ pub record Ends (program : Program) (fuel t : ℕ) (made : List (Position × ℕ
     (price : Option ℕ) (units : ℕ) : Type 0 where
   pub follows : Follows program (with_fuel fuel) t (first_thread (with_fuel fuel)) (steps fuel t made)
   pub stops : stop_of (last program fuel t made) ≡ stop
-  pub pays : paid_by program (with_fuel fuel) t (first_thread (with_fuel fuel)) (steps fuel t made) ≡ paid
-  pub priced : next_price (last program fuel t made) ≡ price
+  pub pays : (account_of program (with_fuel fuel) t (steps fuel t made)).paid ≡ paid
+  pub priced : price_of (account_of program (with_fuel fuel) t (steps fuel t made)).next ≡ price
   pub spends : (last program fuel t made).units ≡ units
 
 -- main never asks, as in a loop without end: no fuel is enough
@@ -96,7 +101,70 @@ waiting = (Start LoadStart, 0) ∷ (Start LoadStart, 0) ∷ (StoreEnded Fuel, 0)
 abbrev pub NeverBegins : Type 0
 NeverBegins = Ends (main_with silent) 2 1 waiting Fuel 2 (Some 1) 2
 
+-- Main begins two instructions, of which the second asks for 8 bytes; then one frees the block and one returns. That
+-- is 1 for the load of its start word, 2 and 4 steps for the malloc, 1 and 4 steps for the free, and 1.
+abbrev pub freeing : Behaviour
+freeing [] = Asks 2 place (requests.Malloc 8)
+freeing (address ∷ []) = Asks 1 place (requests.Free address)
+freeing (address ∷ freed ∷ answers) = Asks 1 place (requests.Stop (Returned None))
+
+abbrev pub first_search : Search
+first_search = search_from 0 0
+
+abbrev pub behind_free : Stop → List (Position × ℕ)
+behind_free stop =
+    (Start LoadStart, 1)
+    ∷ (Malloc (allocs.LoadPage first_search), 0)
+    ∷ (Malloc (allocs.SwapPage first_search), 0)
+    ∷ (Malloc (allocs.LoadBlock first_search 0), 0)
+    ∷ (Malloc (allocs.SwapBlock first_search 0 0), 0)
+    ∷ (Free (frees.LoadPage 0x1000000), 1)
+    ∷ (Free (frees.LoadBlock 0x1000000 0), 5)
+    ∷ (Free (frees.SwapBlock 0x1000000 0 1), 5)
+    ∷ (Free (frees.StoreFree 0 1), 0)
+    ∷ (StoreEnded stop, 0)
+    ∷ []
+
+abbrev pub ReturnsWithThirteen : Type 0
+ReturnsWithThirteen = Ends (main_with freeing) 13 0 (behind_free (Returned None)) (Returned None) 12 (Some 1) 13
+
+abbrev pub EndsBehindFree : Type 0
+EndsBehindFree = Ends (main_with freeing) 12 0 (behind_free Fuel) Fuel 12 (Some 1) 12
+
+-- with 5 the third step of the malloc would be the sixth unit
+abbrev pub in_malloc : List (Position × ℕ)
+in_malloc =
+    (Start LoadStart, 1)
+    ∷ (Malloc (allocs.LoadPage first_search), 0)
+    ∷ (Malloc (allocs.SwapPage first_search), 0)
+    ∷ (StoreEnded Fuel, 0)
+    ∷ []
+
+abbrev pub EndsInMalloc : Type 0
+EndsInMalloc = Ends (main_with freeing) 5 0 in_malloc Fuel 5 (Some 1) 5
+
+-- with 2 the second instruction does not begin
+abbrev pub EndsBeforeMalloc : Type 0
+EndsBeforeMalloc = Ends (main_with freeing) 2 0 (at_once Fuel) Fuel 1 (Some 3) 2
+
+-- main frees an address whose page has no size class: its step costs 1, and the trap nothing
+abbrev pub failing : Behaviour
+failing answers = Asks 1 place (requests.Free 0x1000000)
+
+abbrev pub bad_free : Stop
+bad_free = Trap (record { place = place; kind = BadFree 0x1000000 })
+
+abbrev pub in_free : List (Position × ℕ)
+in_free = (Start LoadStart, 1) ∷ (Free (frees.LoadPage 0x1000000), 0) ∷ (StoreEnded bad_free, 0) ∷ []
+
+abbrev pub TrapsWithThree : Type 0
+TrapsWithThree = Ends (main_with failing) 3 0 in_free bad_free 3 (Some 0) 3
+
+abbrev pub EndsBeforeFree : Type 0
+EndsBeforeFree = Ends (main_with failing) 2 0 (at_once Fuel) Fuel 1 (Some 2) 2
+
 abbrev pub PricesAreTried : Type 0
 PricesAreTried =
     NeverAsks × ReturnsWithTwo × EndsWithOne × ReturnsWithSix × EndsBehindLoad × EndsAtLoad × EndsBeforeLoad
-    × NeverBegins
+    × NeverBegins × ReturnsWithThirteen × EndsBehindFree × EndsInMalloc × EndsBeforeMalloc × TrapsWithThree
+    × EndsBeforeFree
