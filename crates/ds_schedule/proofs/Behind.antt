@@ -1,5 +1,5 @@
 -- Behind a step a schedule stands as code keeps it.
-use Rattle.std.proofs.Common.{◌≡◌, ℕ, zero, suc, ◌<◌, ◌≤◌, ◌==◌, Bool, true, false, cond, min, List, [], ◌∷◌, set}
+use Rattle.std.proofs.Common.{◌≡◌, ℕ, zero, suc, ◌+◌, ◌<◌, ◌≤◌, ◌==◌, Bool, true, false, cond, min, List, [], ◌∷◌, set}
 use Rattle.std.proofs.Common.{refl, ap, ◌∙◌, sym, subst, arith, slice_index_or, get_or, true≢false}
 use Rattle.std.proofs.lemmas.Bool.{eqb-true, eqb-false}
 use Rattle.std.proofs.lemmas.List.{get_or-set_other}
@@ -8,7 +8,7 @@ use Rattle.ds_plain.specs.declared.Cue.{Cue}
 use Rattle.ds_plain.specs.Turns.{Turns, Passing, Gives, Ends, Neither, draw, standing_cues, turns_by, turns_behind}
 use Rattle.ds_plain.specs.Turns.{passing_of, given_behind, ended_behind, ends_thread}
 use Rattle.ds_schedule.specs.Standing.{Standing, StandsAt, has_ended}
-use Rattle.ds_schedule.specs.Kept.{turns_of, cues_after, drawn_after, given_after}
+use Rattle.ds_schedule.specs.Kept.{turns_of, cues_after, drawn_after, given_after, gives_thread}
 use Rattle.ds_schedule.proofs.Same.{standing_same}
 
 -- what is read at t where `true` was written there
@@ -34,6 +34,24 @@ pub ended_else : (passing : Passing) (ended : List Bool) (t u : ℕ) → ends_th
 ended_else Gives ended t u is = refl
 ended_else Ends ended t u is = elim (true≢false is) [ ]
 ended_else Neither ended t u is = refl
+
+-- how many numbers were given out behind a step, as code counts them
+pub given_by_end : (passing : Passing) (given : ℕ) → ends_thread passing ≡ true → given ≡ given_after passing given
+given_by_end Gives given is = elim (true≢false (sym is)) [ ]
+given_by_end Ends given is = refl
+given_by_end Neither given is = elim (true≢false (sym is)) [ ]
+
+pub given_by_more : (passing : Passing) (given : ℕ) → gives_thread passing ≡ true
+    → min (given + 1) 16 ≡ given_after passing given
+given_by_more Gives given is = refl
+given_by_more Ends given is = elim (true≢false (sym is)) [ ]
+given_by_more Neither given is = elim (true≢false (sym is)) [ ]
+
+pub given_else : (passing : Passing) (given : ℕ) → ends_thread passing ≡ false → gives_thread passing ≡ false
+    → given ≡ given_after passing given
+given_else Gives given ends gives = elim (true≢false gives) [ ]
+given_else Ends given ends gives = elim (true≢false ends) [ ]
+given_else Neither given ends gives = refl
 
 ended_same : (passing : Passing) (t u : ℕ) (ended other : ℕ → Bool) → ended u ≡ other u
     → ended_behind passing t ended u ≡ ended_behind passing t other u

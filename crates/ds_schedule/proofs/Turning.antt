@@ -1,7 +1,10 @@
 -- The threads that pass a test, one after another.
-use Rattle.std.proofs.Common.{◌≡◌, ℕ, suc, ◌+◌, ◌-◌, ◌<◌, ◌≤◌, Bool, true, false, [], ◌∷◌, length}
-use Rattle.std.proofs.Common.{refl, ap, ◌∙◌, arith, Some, None, List, cond, slice_get, min, ltb, subst, ◌%◌}
-use Rattle.std.proofs.lemmas.Nat.{mod_below}
+use Rattle.std.proofs.Common.{◌≡◌, ℕ, zero, suc, ◌+◌, ◌-◌, ◌<◌, ◌≤◌, Bool, true, false, [], ◌∷◌, ◌++◌, length}
+use Rattle.std.proofs.Common.{refl, ap, ◌∙◌, arith, Some, None, List, cond, slice_get, min, ltb, subst, take}
+use Rattle.std.proofs.Common.{slice_set}
+use Rattle.std.specs.List.{filter, range_with_len}
+use Rattle.std.proofs.lemmas.List.{take_more_set, append_assoc, append-nil}
+use Rattle.std.proofs.lemmas.Option.{same_Some, none-some}
 use Rattle.ds_plain.specs.declared.Cue.{Cue}
 use Rattle.ds_plain.specs.Turns.{Turns, may_turn, standing_cues, next_by, next_turn, chosen, draw}
 use Rattle.ds_schedule.specs.Standing.{Standing, main_has_ended}
@@ -36,18 +39,39 @@ some_from test passes =
     ap length (from_passing test 0 (omega arith) passes) ∙ (omega arith) in
     omega arith
 
--- past thread t, which passes it, a place is one less
-pub place_low : (test : ℕ → Bool) (t left next : ℕ) → t < 16 → test t ≡ true → 0 < left → next ≡ left - 1
-    → left < length (threads_from test t) → next < length (threads_from test (t + 1))
-place_low test t left next low passes some e within =
-    let more : length (threads_from test t) ≡ suc (length (threads_from test (t + 1))) =
-    ap length (from_passing test t low passes) in
-    omega arith
+-- behind thread t, which passes it, one more is listed
+pub listed_more : (test : ℕ → Bool) (t : ℕ) (threads : List ℕ) (count : ℕ) → t < 16 → test t ≡ true
+    → count < length threads
+    → take (count + 1) (slice_set threads count t) ++ threads_from test (t + 1)
+    ≡ take count threads ++ threads_from test t
+listed_more test t threads count low passes room =
+    rw (take_more_set threads count t room, from_passing test t low passes)
+    (append_assoc (take count threads) (t ∷ []) (threads_from test (t + 1)))
 
-pub place_same : (test : ℕ → Bool) (t left next : ℕ) → t < 16 → test t ≡ true → 0 < left → next ≡ left - 1
-    → slice_get (threads_from test (t + 1)) next ≡ slice_get (threads_from test t) left
-place_same test t left next low passes some e =
-    let more : left ≡ suc next = omega arith in rw (from_passing test t low passes, more) refl
+-- at the end all are listed
+pub listed_all : (test : ℕ → Bool) (t : ℕ) (threads : List ℕ) (count : ℕ) → 16 ≤ t
+    → take count threads ≡ take count threads ++ threads_from test t
+listed_all test t threads count high = rw (from_end test t high, append-nil) refl
+
+passing : (test : ℕ → Bool) (t : ℕ) (threads : List ℕ) (place : ℕ) → slice_get (filter test threads) place ≡ Some t
+    → test t ≡ true
+passing test t [] place found = absurd (none-some t found)
+passing test t (first ∷ threads) place found = by (test first) refl (passing test t threads) place found
+  where
+    by : (b : Bool) → test first ≡ b
+        → ((place : ℕ) → slice_get (filter test threads) place ≡ Some t → test t ≡ true) → (place : ℕ)
+        → slice_get (cond b (first ∷ filter test threads) (filter test threads)) place ≡ Some t → test t ≡ true
+    by true may later zero found = subst (λ (u : ℕ). test u ≡ true) (same_Some first t found) may
+    by true may later (suc place) found = later place found
+    by false fails later place found = later place found
+
+-- each thread that is listed passes it
+pub listed_may : (test : ℕ → Bool) (threads : List ℕ) (place t : ℕ) → threads ≡ threads_from test 0
+    → slice_get threads place ≡ Some t → test t ≡ true
+unfolding threads_from
+listed_may test threads place t listed found =
+    passing test t (range_with_len 0 16) place
+    (subst (λ (threads : List ℕ). slice_get threads place ≡ Some t) listed found)
 
 -- main may have a turn where it has not ended
 pub main_may : (standing : Standing) → 1 ≤ standing.given → main_has_ended standing ≡ false
@@ -77,7 +101,3 @@ next_drawn turns result none drawn = by (standing_cues turns turns.cues) none
     by : (cues : List Cue) → slice_get cues 0 ≡ None → next_by turns cues ≡ Some result
     by [] none = drawn
     by (cue ∷ cues) none = cc
-
--- a place that is drawn is one of theirs
-pub place_drawn : (drawn count threads : ℕ) → count ≡ threads → 0 < count → drawn % count < threads
-place_drawn drawn count threads e some = rw (← e) (mod_below drawn count some)

@@ -1,5 +1,6 @@
 -- What the private functions compute of what code keeps.
-use Rattle.std.specs.Prelude.{ℕ, ◌+◌, ◌-◌, Bool, true, false, min, List, [], ◌∷◌}
+use Rattle.std.specs.Prelude.{◌≡◌, ℕ, ◌+◌, ◌-◌, ◌≤◌, Bool, true, false, not, ◌&&◌, min, nat_lt, List, [], ◌∷◌}
+use Rattle.std.specs.Prelude.{length, slice_index_or}
 use Rattle.std.specs.List.{filter, range_with_len}
 use Rattle.ds_step.specs.declared.Step.{Step}
 use Rattle.ds_plain.specs.declared.Cue.{Cue}
@@ -22,9 +23,21 @@ turns_of standing =
       ended = has_ended standing;
     }
 
+-- thread t is one of so many of 16 that were given out, and has not ended; a number past those of the threads counts
+-- as one that has
+abbrev pub may_by : (given : ℕ) → (ended : List Bool) → (t : ℕ) → Bool
+may_by given ended t = nat_lt t (min given 16) && not (slice_index_or ended t true)
+
 -- the threads from t on that pass a test
 unfoldable pub threads_from : (ℕ → Bool) → (t : ℕ) → List ℕ
 threads_from test t = filter test (range_with_len t (16 - t))
+
+-- code keeps a list of the threads that may have a turn; main was given out
+pub record IsKept (given : ℕ) (ended : List Bool) (turning : List ℕ) : Type 0 where
+  pub some : 1 ≤ given
+  pub few : given ≤ 16
+  pub sixteen : length ended ≡ 16
+  pub listed : turning ≡ threads_from (may_by given ended) 0
 
 -- behind a step, of the cues that stood before it
 abbrev pub cues_after : List Cue → Step → List Cue

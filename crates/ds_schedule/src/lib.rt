@@ -3,6 +3,7 @@
 //! A schedule begins with cues, and from then on each turn is drawn from a seed.
 #![tactic(auto)]
 
+mod listed;
 mod lists;
 mod passing;
 mod progress;

@@ -1,15 +1,16 @@
 //! How far a schedule has been followed.
 
-ghost use Rattle.std.specs.Prelude.{◌≡◌, ◌<◌, true, false, Some, length, slice_get};
+ghost use Rattle.std.specs.Prelude.{◌≡◌, ◌<◌, ◌+◌, true, false, min, Some};
 ghost use Rattle.ds_plain.specs.Turns.{Turns, first_turns, next_turn, may_turn, turns_behind, standing_cues};
 ghost use Rattle.ds_plain.specs.Turns.{passing_of, chosen, draw};
 ghost use Rattle.ds_schedule.specs.Standing.{Standing, StandsAt, main_has_ended};
-ghost use Rattle.ds_schedule.specs.Kept.{turns_of, threads_from, cues_after, drawn_after, given_after};
+ghost use Rattle.ds_schedule.specs.Kept.{turns_of, threads_from, cues_after, drawn_after};
 
+use crate::listed::{Turning, may_by};
 use crate::lists::Schedule;
 use crate::passing::{draw, ends_cue, is_end, is_given};
 use ds_plain::Cue;
-use ds_step::{Event, Step};
+use ds_step::Step;
 use std::marker::Model;
 
 /// How many threads there are.
@@ -22,17 +23,18 @@ pub struct Progress<'a> {
     drawn: u64,
     given: u8,
     ended: [bool; 16],
+    turning: Turning,
 }
 
 impl<'a> Model for Progress<'a> {
-    ghost use Rattle.std.specs.Prelude.{◌≤◌};
     ghost use Rattle.ds_schedule.specs.Standing.{Standing};
+    ghost use Rattle.ds_schedule.specs.Kept.{IsKept};
 
     ghost Value = { Standing };
 
     ghost view = { λ p. record { cues = p.cues.now; drawn = p.drawn; given = p.given; ended = p.ended } };
 
-    ghost invariant = { λ p. (1 ≤ p.given) × (p.given ≤ 16) };
+    ghost invariant = { λ p. IsKept p.given p.ended p.turning };
 }
 
 impl<'a> Progress<'a> {
@@ -40,11 +42,13 @@ impl<'a> Progress<'a> {
     pub fn new(schedule: &'a Schedule) -> Progress<'a>
         ensures { StandsAt result (first_turns schedule.now.cues schedule.now.seed) }
     {
+        let ended = [false; 16];
         Progress {
             cues: schedule.cues.as_slice(),
             drawn: schedule.seed,
             given: 1,
-            ended: [false; 16],
+            turning: Turning::of(1, &ended),
+            ended,
         }
     }
 
@@ -75,9 +79,14 @@ impl<'a> Progress<'a> {
         let cues = self.standing();
         self.drawn = drawn_behind(cues, self.drawn);
         self.cues = cues_behind(cues, step);
-        self.given = given_behind(self.given, step.event);
         if is_end(step) {
             self.ended[thread as usize] = true;
+            self.turning = Turning::of(self.given, &self.ended);
+            return;
+        }
+        if is_given(step.event) {
+            self.given = one_more(self.given);
+            self.turning = Turning::of(self.given, &self.ended);
         }
     }
 
@@ -97,7 +106,7 @@ impl<'a> Progress<'a> {
     fn may_turn(&self, thread: u8) -> bool
         ensures { result ≡ may_turn (turns_of self.now) thread }
     {
-        thread < self.given && !self.ended[thread as usize]
+        may_by(self.given, &self.ended, thread)
     }
 
     /// The cues from the first one on whose thread may have a turn.
@@ -114,48 +123,13 @@ impl<'a> Progress<'a> {
         cues
     }
 
-    /// How many threads may have a turn.
-    #[tactic(auto, using(crate::proofs::Turning::from_each))]
-    fn turning(&self) -> u64
-        ensures { result ≡ length (threads_from (may_turn (turns_of self.now)) 0) }
-    {
-        let mut count = 0;
-        for thread in 0..THREADS {
-            if self.may_turn(thread) {
-                count += 1;
-            }
-        }
-        count
-    }
-
-    /// The thread at this place among those that may have a turn, from 0 on.
-    #[tactic(auto, using(crate::proofs::Turning::from_each))]
-    fn turning_at(&self, place: u64) -> u8
-        requires { place < length (threads_from (may_turn (turns_of self.now)) 0) }
-        ensures at { slice_get (threads_from (may_turn (turns_of self.now)) 0) place ≡ Some result }
-        ensures may { may_turn (turns_of self.now) result ≡ true }
-    {
-        let mut left = place;
-        for thread in 0..THREADS {
-            if self.may_turn(thread) {
-                if left == 0 {
-                    return thread;
-                }
-                left -= 1;
-            }
-        }
-        unreachable!()
-    }
-
     /// The thread that is drawn next among those that may have a turn.
     fn drawn_thread(&self) -> u8
         requires { main_has_ended self.now ≡ false }
         ensures drawn { chosen (threads_from (may_turn (turns_of self.now)) 0) (draw self.now.drawn) ≡ Some result }
         ensures may { may_turn (turns_of self.now) result ≡ true }
     {
-        let drawn = draw(self.drawn);
-        let count = self.turning();
-        self.turning_at((drawn >> 33) % count)
+        self.turning.drawn(draw(self.drawn) >> 33)
     }
 }
 
@@ -179,14 +153,10 @@ fn drawn_behind(cues: &[Cue], drawn: u64) -> u64
     }
 }
 
-/// How many thread numbers were given out behind an event.
-fn given_behind(given: u8, event: Event) -> u8
+/// How many thread numbers were given out, of 16, where one more was.
+fn one_more(given: u8) -> u8
     requires { given < 17 }
-    ensures { result ≡ given_after (passing_of event) given }
+    ensures { result ≡ min (given + 1) 16 }
 {
-    if given < THREADS && is_given(event) {
-        given + 1
-    } else {
-        given
-    }
+    if given < THREADS { given + 1 } else { given }
 }

@@ -1,19 +1,20 @@
-use Rattle.std.proofs.Common.{◌<◌, ◌≤◌, subst, length}
+use Rattle.std.proofs.Common.{◌≡◌, ◌<◌, ◌∙◌, ap, sym, subst, length, true, false, List, ℕ}
 use Rattle.ds_plain.specs.Turns.{may_turn}
-use Rattle.ds_schedule.specs.Standing.{Standing}
-use Rattle.ds_schedule.specs.Kept.{turns_of, threads_from}
-use Rattle.ds_schedule.proofs.Turning.{some_from, main_may, place_drawn}
+use Rattle.ds_schedule.specs.Standing.{Standing, main_has_ended}
+use Rattle.ds_schedule.specs.Kept.{turns_of, may_by}
+use Rattle.ds_schedule.proofs.Turning.{some_from, main_may, listed_may}
 use Rattle.ds_schedule.proofs.progress.Progress.drawn_thread.Goals as goal
 
-pub nonzero_rem-drawn : goal.nonzero_rem-drawn
-nonzero_rem-drawn c =
-    let s = c.args.self.now in
-    let given : 1 ≤ s.given = subst (λ (s : Standing). 1 ≤ s.given) c.self.view_is c.self.invariant.0 in
-    let some : 0 < length (threads_from (may_turn (turns_of s)) 0) =
-    some_from (may_turn (turns_of s)) (main_may s given c.requires) in
-    rw c.turning-count.ensures some
+pub drawn-requires : goal.drawn-requires
+drawn-requires c =
+    let i = c.self.inside in
+    let now : Standing = record { cues = i.cues.now; drawn = i.drawn; given = i.given; ended = i.ended } in
+    let running : main_has_ended now ≡ false = ap main_has_ended c.self.view_is ∙ c.requires in
+    subst (λ (threads : List ℕ). 0 < length threads) (sym c.self.invariant.listed)
+    (some_from (may_by i.given i.ended) (main_may now c.self.invariant.some running))
 
-pub turning_at-requires : goal.turning_at-requires
-turning_at-requires c =
-    place_drawn _ c.turning-count.result
-    (length (threads_from (may_turn (turns_of c.args.self.now)) 0)) c.turning-count.ensures (nonzero_rem-drawn c)
+pub returns-clause-may : goal.returns-clause-may
+returns-clause-may c =
+    let i = c.self.inside in
+    subst (λ (s : Standing). may_turn (turns_of s) c.drawn.result ≡ true) c.self.view_is
+    (listed_may (may_by i.given i.ended) i.turning _ c.drawn.result c.self.invariant.listed c.drawn.ensures)
