@@ -8,7 +8,7 @@ ghost use Rattle.ds_report.specs.Stop.{how_text};
 ghost use Rattle.ds_report.specs.Counts.{count_of};
 ghost use Rattle.ds_report.specs.Report.{value_line, count_text, summary_line, IsReport};
 
-use crate::counts::{Tally, count_of};
+use crate::counts::counts_of;
 use crate::prints::{Print, in_order};
 use crate::stop::{push_how, push_stop_lines, trap_count};
 use crate::text::{push, push_number, push_signed};
@@ -77,12 +77,13 @@ fn push_summary(
     ensures { OnOk result
         (text.new.items ≡ text.old.items ++ summary_line main prints (count_of traces.now) traps) }
 {
+    let counts = counts_of(traces);
     push_main(text, main)?;
     push_count(text, b"prints", prints)?;
-    push_count(text, b"mallocs", count_of(traces, Tally::Malloc))?;
-    push_count(text, b"frees", count_of(traces, Tally::Free))?;
-    push_count(text, b"notes", count_of(traces, Tally::Note))?;
-    push_count(text, b"marks", count_of(traces, Tally::Mark))?;
+    push_count(text, b"mallocs", counts.mallocs)?;
+    push_count(text, b"frees", counts.frees)?;
+    push_count(text, b"notes", counts.notes)?;
+    push_count(text, b"marks", counts.marks)?;
     push_count(text, b"traps", traps)?;
     push(text, b"\n")
 }
