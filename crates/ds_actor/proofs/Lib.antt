@@ -1,4 +1,6 @@
 mod Arrives
 mod Within
 mod Kept
+mod Pays
 mod Starts
+mod Takes

@@ -1,14 +1,14 @@
--- Whatever the code, a thread asks only for the program's words.
+-- Whatever the code, a thread asks only for words that are there.
 use Rattle.std.proofs.Common.{◌≡◌, ℕ, zero, suc, ◌+◌, ◌*◌, ◌/◌, ◌%◌, ◌<◌, ◌≤◌, Bool, true, false, not}
 use Rattle.std.proofs.Common.{◌&&◌, ◌||◌, ◌==◌, if◌then◌else◌, nat_lt, nat_le, List, [], ◌∷◌, length, Option, Some, None}
-use Rattle.std.proofs.Common.{Result, Ok, Err, refl, arith, option_map, slice_get}
+use Rattle.std.proofs.Common.{Result, Ok, Err, refl, arith, option_map, slice_get, slice_index}
 use Rattle.std.proofs.lemmas.Bool.{and_parts}
 use Rattle.std.proofs.lemmas.Bool.Decides.{nat_tests}
 use Rattle.ds_ast.specs.declared.ty.Scalar.{Scalar}
 use Rattle.ds_ast.specs.declared.ty.Scalar.TheVariants.{Ptr}
 use Rattle.ds_arith.specs.declared.fault.ArithFault.{ArithFault}
-use Rattle.ds_map.specs.Bounds.{Bounds}
-use Rattle.ds_map.specs.Blocks.{is_marked}
+use Rattle.ds_map.specs.Bounds.{Bounds, IsInRange}
+use Rattle.ds_map.specs.Blocks.{class_of, is_marked}
 use Rattle.ds_map.specs.Regions.{Region, globals, stacks, stack, heap, lies_in, location_in, location_of, program_words}
 use Rattle.ds_shape.specs.Sizes.{scalar_size, rounded}
 use Rattle.ds_plain.specs.declared.Access.{Access}
@@ -27,7 +27,11 @@ use Rattle.ds_plain.specs.Asking.{IsWithin, IsAskedWithin}
 use Rattle.ds_plain.specs.Behaviour.{Outcome, Goes, Wants, Stops, Stuck, Asked, Asks, Silent, asked_by, ask, one_more}
 use Rattle.ds_plain.specs.Behaviour.{behaviour}
 use Rattle.ds_plain.specs.Parts.{is_whole}
-use Rattle.ds_plain.specs.Table.{position_of, end_by}
+use Rattle.ds_plain.specs.declared.FreeAt.TheVariants as freeing
+use Rattle.ds_plain.specs.Freeing.{is_freeable}
+use Rattle.ds_plain.specs.Reached.{AreCursors}
+use Rattle.ds_plain.specs.Table.{looking_for, position_of, end_by}
+use Rattle.ds_alloc_laws.specs.Laws.{ClassesAreFew, MallocsBegin}
 use Rattle.ds_meaning.specs.Control.{ReturnValue}
 use Rattle.ds_meaning.specs.Memory.{access_at}
 use Rattle.ds_code.specs.declared.frames.Waiting.{Waiting}
@@ -110,14 +114,19 @@ judged_within lim ty address =
 
 -- INSTRUCTIONS
 
--- what is asked works on one of the program's words
+-- the position of a request works on words that are there, wherever the thread looks for blocks
+abbrev RequestWithin : Bounds → Request → Type 0
+RequestWithin lim request =
+    (cursors : List ℕ) → AreCursors lim cursors → IsWithin lim (position_of lim cursors request)
+
+-- what is asked works on words that are there
 abbrev Fits : Bounds → Outcome Machine → Type 0
 Fits lim (Goes q) = Unit {0}
-Fits lim (Wants place request answered) = IsWithin lim (position_of request)
+Fits lim (Wants place request answered) = RequestWithin lim request
 Fits lim (Stops place stop) = Unit {0}
 Fits lim Stuck = Unit {0}
 
-module _ (r : Running) (q : Machine) (i : CodeInstr) where
+module _ (few : ClassesAreFew) (begins : MallocsBegin) (r : Running) (range : IsInRange r.lim) (q : Machine) (i : CodeInstr) where
   located_fits : (found : Result Access TrapKind) (go : Access → Outcome Machine) → JudgedWithin r.lim found
       → ((access : Access) → access.loc < program_words r.lim → Fits r.lim (go access))
       → Fits r.lim (located q i found go)
@@ -130,11 +139,24 @@ module _ (r : Running) (q : Machine) (i : CodeInstr) where
   storing false loc value lt = tt
 
   requested_within : (access : Access) (op : MemoryOp) → access.loc < program_words r.lim
-      → IsWithin r.lim (position_of (requested q access op))
-  requested_within access (Load ty at) lt = lt
-  requested_within access (Store ty v at) lt = storing (is_whole access) access.loc (value q ty v) lt
-  requested_within access (Rmw op at ty v) lt = tt
-  requested_within access (Cmpxchg at ty expected new exchanged) lt = tt
+      → RequestWithin r.lim (requested q access op)
+  requested_within access (Load ty at) lt = λ cursors looks. lt
+  requested_within access (Store ty v at) lt =
+      λ cursors looks. storing (is_whole access) access.loc (value q ty v) lt
+  requested_within access (Rmw op at ty v) lt = λ cursors looks. tt
+  requested_within access (Cmpxchg at ty expected new exchanged) lt = λ cursors looks. tt
+
+  -- a malloc begins at a place of its class
+  looking_within : (cursors : List ℕ) (class : Option ℕ) → AreCursors r.lim cursors
+      → ((c : ℕ) → class ≡ Some c → c < 15) → IsWithin r.lim (looking_for cursors class)
+  looking_within cursors None looks below = tt
+  looking_within cursors (Some class) looks below =
+      (begins r.lim class (slice_index cursors class) range (looks.each class (below class refl))).0
+
+  freeing_within : (b : Bool) (address : ℕ) → is_freeable r.lim address ≡ b
+      → IsWithin r.lim (if b then positions.Free (freeing.LoadPage address) else NoRow)
+  freeing_within true address e = e
+  freeing_within false address e = tt
 
   moves_or_traps : (b : Bool) (to : Machine) (kind : TrapKind)
       → Fits r.lim (if b then Goes to else traps q i kind)
@@ -142,12 +164,12 @@ module _ (r : Running) (q : Machine) (i : CodeInstr) where
   moves_or_traps false to kind = tt
 
   moves_or_asks : (b : Bool) (to : Machine) (place : Place) (request : Request) (answered : ℕ → Machine)
-      → IsWithin r.lim (position_of request) → Fits r.lim (if b then Goes to else Wants place request answered)
+      → RequestWithin r.lim request → Fits r.lim (if b then Goes to else Wants place request answered)
   moves_or_asks true to place request answered h = tt
   moves_or_asks false to place request answered h = h
 
   asks_or_traps : (b : Bool) (place : Place) (request : Request) (answered : ℕ → Machine) (kind : TrapKind)
-      → IsWithin r.lim (position_of request) → Fits r.lim (if b then Wants place request answered else traps q i kind)
+      → RequestWithin r.lim request → Fits r.lim (if b then Wants place request answered else traps q i kind)
   asks_or_traps true place request answered kind h = h
   asks_or_traps false place request answered kind h = tt
 
@@ -158,7 +180,7 @@ module _ (r : Running) (q : Machine) (i : CodeInstr) where
   noted_fits : (loc v : ℕ) → Fits r.lim (noted r q i loc v)
   noted_fits loc v =
       moves_or_asks (is_marked v || not (lies_in (heap r.lim) v)) (on q) (place_of q i) (requests.Note loc v)
-      (λ z. on q) tt
+      (λ z. on q) (λ cursors looks. tt)
 
   abbrev frees_whole : ℕ → Outcome Machine
   frees_whole address =
@@ -174,17 +196,20 @@ module _ (r : Running) (q : Machine) (i : CodeInstr) where
       by_test (Fits r.lim) (address == 0) (Goes (on q)) (frees_marked address) tt
       (by_test (Fits r.lim) (is_marked address) (traps q i (kinds.MarkedFree address)) (frees_whole address) tt
       (asks_or_traps (lies_in (heap r.lim) address && address % 8 == 0) (place_of q i) (requests.Free address)
-      (λ z. on q) (kinds.BadFree address) tt))
+      (λ z. on q) (kinds.BadFree address)
+      (λ cursors looks. freeing_within (is_freeable r.lim address) address refl)))
 
   asks_fits : (op : ExternalOp) → Fits r.lim (asks r q i op)
   asks_fits (Malloc bytes) =
       moves_or_asks (nat_lt 4095 (input q bytes)) (results q i.to 0) (place_of q i)
-      (requests.Malloc (input q bytes)) (λ address. results q i.to address) tt
+      (requests.Malloc (input q bytes)) (λ address. results q i.to address)
+      (λ cursors looks. looking_within cursors (class_of (input q bytes)) looks (few (input q bytes)))
   asks_fits (Free at) = frees_fits (input q at)
-  asks_fits (Print v) = tt
+  asks_fits (Print v) = λ cursors looks. tt
   asks_fits (Spawn at function argument) =
-      located_fits (judged r.lim Ptr (input q at)) _ (judged_within r.lim Ptr (input q at)) (λ access lt. tt)
-  asks_fits (Join thread) = tt
+      located_fits (judged r.lim Ptr (input q at)) _ (judged_within r.lim Ptr (input q at))
+      (λ access lt. λ cursors looks. tt)
+  asks_fits (Join thread) = λ cursors looks. tt
   asks_fits (Note at v) =
       located_fits (judged r.lim Ptr (value q Ptr at)) _ (judged_within r.lim Ptr (value q Ptr at))
       (λ access lt. noted_fits access.loc (value q Ptr v))
@@ -230,12 +255,13 @@ module _ (r : Running) (q : Machine) (i : CodeInstr) where
   act_fits Unreachable = tt
   act_fits Unknown = tt
 
-act_at_fits : (r : Running) (q : Machine) (i : Option CodeInstr) → Fits r.lim (act_at r q i)
-act_at_fits r q None = tt
-act_at_fits r q (Some i) = act_fits r q i i.op
+act_at_fits : ClassesAreFew → MallocsBegin → (r : Running) → IsInRange r.lim → (q : Machine) (i : Option CodeInstr)
+    → Fits r.lim (act_at r q i)
+act_at_fits few begins r range q None = tt
+act_at_fits few begins r range q (Some i) = act_fits few begins r range q i i.op
 
-step_fits : (r : Running) (q : Machine) → Fits r.lim (step r q)
-step_fits r q = act_at_fits r q (at_hand r q)
+step_fits : ClassesAreFew → MallocsBegin → (r : Running) → IsInRange r.lim → (q : Machine) → Fits r.lim (step r q)
+step_fits few begins r range q = act_at_fits few begins r range q (at_hand r q)
 
 -- WHAT IS ASKED
 
@@ -255,21 +281,24 @@ by_outcome : (lim : Bounds) (go : Machine → Asked) (o : Outcome Machine) → (
     → Fits lim o → IsAskedWithin lim (asked_by go o)
 by_outcome lim go (Goes q) all h = more_within lim (go q) (all q)
 by_outcome lim go (Wants place request answered) all h = h
-by_outcome lim go (Stops place stop) all h = stop_within lim stop
+by_outcome lim go (Stops place stop) all h = λ cursors looks. stop_within lim stop
 by_outcome lim go Stuck all h = tt
 
-pub ask_within : (r : Running) (n : ℕ) (q : Machine) → IsAskedWithin r.lim (ask (step r) n q)
-ask_within r zero q = tt
-ask_within r (suc n) q = by_outcome r.lim (ask (step r) n) (step r q) (λ q'. ask_within r n q') (step_fits r q)
+pub ask_within : ClassesAreFew → MallocsBegin → (r : Running) → IsInRange r.lim → (n : ℕ) (q : Machine)
+    → IsAskedWithin r.lim (ask (step r) n q)
+ask_within few begins r range zero q = tt
+ask_within few begins r range (suc n) q =
+    by_outcome r.lim (ask (step r) n) (step r q) (λ q'. ask_within few begins r range n q') (step_fits few begins r range q)
 
 overflow_within : (lim : Bounds) (function n : ℕ) → IsAskedWithin lim (ask (overflows function) n tt)
 overflow_within lim function zero = tt
-overflow_within lim function (suc n) = tt
+overflow_within lim function (suc n) = λ cursors looks. tt
 
-pub begin_within : (r : Running) (function argument : ℕ) → IsAskedWithin r.lim (behaves r function argument [])
-begin_within r function argument = by_fit (fits r.code function)
+pub begin_within : ClassesAreFew → MallocsBegin → (r : Running) → IsInRange r.lim → (function argument : ℕ)
+    → IsAskedWithin r.lim (behaves r function argument [])
+begin_within few begins r range function argument = by_fit (fits r.code function)
   where
     by_fit : (b : Bool) → IsAskedWithin r.lim ((if b then behaviour (step r) r.lim.fuel (start r.code function argument)
         else behaviour (overflows function) r.lim.fuel tt) [])
-    by_fit true = ask_within r r.lim.fuel (start r.code function argument)
+    by_fit true = ask_within few begins r range r.lim.fuel (start r.code function argument)
     by_fit false = overflow_within r.lim function r.lim.fuel

@@ -1,28 +1,39 @@
 //! Actors: where a thread stands in the step table, and what an answer leads to.
 
-ghost use Rattle.std.specs.Prelude.{◌≡◌, ◌+◌, ◌<◌, ◌≤◌, suc, false, IfOk};
+ghost use Rattle.std.specs.Prelude.{◌≡◌, ◌+◌, ◌<◌, ◌≤◌, suc, false, slice_set, IfOk};
 ghost use Rattle.ds_map.specs.Words.{words};
+ghost use Rattle.ds_map.specs.Blocks.{block_start};
 ghost use Rattle.ds_plain.specs.declared.StartAt.TheVariants.{LoadStart};
-ghost use Rattle.ds_plain.specs.declared.Position.TheVariants.{Start};
+ghost use Rattle.ds_plain.specs.declared.Position.TheVariants.{Start, Malloc, Free};
 ghost use Rattle.ds_plain.specs.Behaviour.{Behaviour, told};
 ghost use Rattle.ds_plain.specs.Asking.{IsWithin};
+ghost use Rattle.ds_plain.specs.Searching.{alloc_next, place_behind};
+ghost use Rattle.ds_plain.specs.Freeing.{free_next};
+ghost use Rattle.ds_plain.specs.Reached.{AreCursors, IsPlace, IsAllocAt, IsFreeAt};
 ghost use Rattle.ds_plain.specs.Table.{op_at, is_over, begins};
-ghost use Rattle.ds_plain.specs.Thread.{first_thread, going_on, moved, stop_at};
+ghost use Rattle.ds_plain.specs.Thread.{first_thread, going_on, moved, moved_from_malloc, moved_from_free};
+ghost use Rattle.ds_plain.specs.Thread.{freed_address, trap_kind, stop_at};
 ghost use Rattle.ds_plain.specs.Thread as threads;
+ghost use Rattle.ds_alloc_laws.specs.Laws.{class_at};
 ghost use Rattle.ds_code.specs.CodeProgram.{program_of, behaves};
 ghost use Rattle.ds_frame.specs.declared.moved.Want.TheVariants as wants;
 ghost use Rattle.ds_frame.specs.Threads.{runs, Serves};
 ghost use Rattle.ds_actor.specs.Actors.{actor_with, stands_at, first_actor, has_begun, IsAt, IsSame, ended_with};
 ghost use Rattle.ds_actor.specs.Actors.{turn_at, Pays};
 
+use crate::cursors::Cursors;
 use crate::outcome::{Turn, turn_by};
 use crate::place::{position_by, stands_at};
 use crate::table::{op_of, step_of};
+use ds_alloc::{AllocOutcome, AllocWalk, place_behind};
+use ds_alloc_laws::{classes_are_few, cursors_begin, cursors_move, mallocs_begin, mallocs_look_on};
 use ds_code::Code;
 use ds_frame::{Thread, Want};
 use ds_map::Limits;
-use ds_plain::{AccessAt, Position, StartAt, Stop};
-use ds_step::WordOp;
+use ds_mark::{FreeOutcome, FreeWalk};
+use ds_pages::start_of;
+use ds_plain::{AccessAt, AllocAt, FreeAt, Position, StartAt, Stop, Trap, TrapKind};
+use ds_step::{FreeTrap, WordOp};
 use std::alloc::{AllocError, Global};
 use std::marker::Model;
 
@@ -34,41 +45,55 @@ fn begins(number: u8, old: u64) -> bool
 }
 
 /// Begins main, and answers where the thread then stands.
-fn begin(code: &Code, limits: &Limits, thread: &mut Thread) -> Position
+fn begin(code: &Code, limits: &Limits, cursors: &Cursors, thread: &mut Thread) -> Position
     requires lim { thread.old.lim ≡ limits.now }
     requires row { code.now.row ≤ thread.old.row }
     requires fresh { thread.old.want ≡ wants.Begin }
     requires pays { thread.old.units < limits.now.fuel }
-    ensures at { IsAt code.now (actor_with thread.new result) (going_on thread.old.lim (thread.old.units + 1)
-        (behaves (runs code.now thread.old) code.now.main 0)) }
+    requires looks { AreCursors limits.now cursors.now }
+    ensures at { IsAt code.now (actor_with thread.new result cursors.now) (going_on thread.old.lim cursors.now
+        (thread.old.units + 1) (behaves (runs code.now thread.old) code.now.main 0)) }
     ensures same { IsSame thread.old thread.new }
     ensures within { IsWithin limits.now result }
     ensures pays { Pays limits.now.fuel thread.new.units thread.new.want result }
 {
+    classes_are_few();
+    mallocs_begin();
+    let _pages = limits.pages();
     thread.spend();
     thread.begin(code, code.main(), 0);
-    position_by(limits, thread)
+    position_by(limits, cursors, thread)
 }
 
 /// Gives a thread the answer to what it wants, and answers where the thread then stands.
-fn resume(code: &Code, limits: &Limits, thread: &mut Thread, value: u64) -> Position
+fn resume(
+    code: &Code,
+    limits: &Limits,
+    cursors: &Cursors,
+    thread: &mut Thread,
+    value: u64,
+) -> Position
     requires lim { thread.old.lim ≡ limits.now }
     requires row { code.now.row ≤ thread.old.row }
     requires pays { thread.old.units < limits.now.fuel }
+    requires looks { AreCursors limits.now cursors.now }
     ensures at { (rest : Behaviour) → Serves (runs code.now thread.old) thread.old.machine rest
-        → IsAt code.now (actor_with thread.new result)
-        (going_on thread.old.lim (thread.old.units + 1) (told rest value)) }
+        → IsAt code.now (actor_with thread.new result cursors.now)
+        (going_on thread.old.lim cursors.now (thread.old.units + 1) (told rest value)) }
     ensures same { IsSame thread.old thread.new }
     ensures within { IsWithin limits.now result }
     ensures pays { Pays limits.now.fuel thread.new.units thread.new.want result }
 {
+    classes_are_few();
+    mallocs_begin();
+    let _pages = limits.pages();
     thread.spend();
     thread.answer(code, value);
-    position_by(limits, thread)
+    position_by(limits, cursors, thread)
 }
 
 /// Makes a thread wait that may not begin yet, and answers where it then stands.
-fn wait(limits: &Limits, thread: &mut Thread) -> Position
+fn wait(limits: &Limits, cursors: &Cursors, thread: &mut Thread) -> Position
     requires lim { thread.old.lim ≡ limits.now }
     requires fresh { thread.old.want ≡ wants.Begin }
     requires pays { thread.old.units < limits.now.fuel }
@@ -77,7 +102,77 @@ fn wait(limits: &Limits, thread: &mut Thread) -> Position
     ensures pays { Pays limits.now.fuel thread.new.units thread.new.want result }
 {
     thread.spend();
-    position_by(limits, thread)
+    position_by(limits, cursors, thread)
+}
+
+/// Makes a thread go on with its malloc, and answers where it then stands.
+fn look_on(limits: &Limits, thread: &mut Thread, at: AllocAt) -> Position
+    requires lim { thread.old.lim ≡ limits.now }
+    requires reached { IsAllocAt limits.now at }
+    requires pays { thread.old.units < limits.now.fuel }
+    ensures thread { thread.new ≡ record thread.old { units = thread.old.units + 1 } }
+    ensures position { result ≡ stands_at limits.now (thread.old.units + 1) (Malloc at) }
+    ensures within { IsWithin limits.now result }
+    ensures pays { Pays limits.now.fuel thread.new.units thread.new.want result }
+{
+    thread.spend();
+    stands_at(limits, thread.units(), Position::Malloc(at))
+}
+
+/// Makes a thread go on with its free, and answers where it then stands.
+fn free_on(limits: &Limits, thread: &mut Thread, at: FreeAt) -> Position
+    requires lim { thread.old.lim ≡ limits.now }
+    requires reached { IsFreeAt limits.now at }
+    requires pays { thread.old.units < limits.now.fuel }
+    ensures thread { thread.new ≡ record thread.old { units = thread.old.units + 1 } }
+    ensures position { result ≡ stands_at limits.now (thread.old.units + 1) (Free at) }
+    ensures within { IsWithin limits.now result }
+    ensures pays { Pays limits.now.fuel thread.new.units thread.new.want result }
+{
+    thread.spend();
+    stands_at(limits, thread.units(), Position::Free(at))
+}
+
+/// The size class that a malloc wants.
+fn class_at(at: AllocAt) -> u8
+    ensures { result ≡ class_at at }
+{
+    match at {
+        AllocAt::LoadPage { search } => search.class,
+        AllocAt::SwapPage { search } => search.class,
+        AllocAt::LoadBlock { search, index: _ } => search.class,
+        AllocAt::SwapBlock {
+            search,
+            index: _,
+            life: _,
+        } => search.class,
+    }
+}
+
+/// The address that a free is asked for.
+fn freed_address(at: FreeAt) -> u64
+    ensures { result ≡ freed_address at }
+{
+    match at {
+        FreeAt::LoadPage { address } => address,
+        FreeAt::LoadBlock { address, place: _ } => address,
+        FreeAt::SwapBlock {
+            address,
+            place: _,
+            life: _,
+        } => address,
+        FreeAt::StoreFree { place: _, life: _ } => 0,
+    }
+}
+
+/// Why the free of an address traps.
+fn trap_kind(address: u64, trap: FreeTrap) -> TrapKind
+    ensures { result ≡ trap_kind address trap }
+{
+    match trap {
+        FreeTrap::BadFree => TrapKind::BadFree { address },
+        FreeTrap::DoubleFree { seen } => TrapKind::DoubleFree { address, seen },
+    }
 }
 
 /// One thread of a run: it runs code, and makes the steps of the step table for what the code asks.
@@ -87,6 +182,7 @@ pub struct Actor {
     number: u8,
     thread: Thread,
     position: Position,
+    cursors: Cursors,
 }
 
 impl Model for Actor {
@@ -94,9 +190,9 @@ impl Model for Actor {
 
     ghost Value = { ActorState };
 
-    ghost view = { λ a. actor_with a.thread a.position };
+    ghost view = { λ a. actor_with a.thread a.position a.cursors };
 
-    ghost invariant = { λ a. IsKept a.limits a.number a.thread a.position };
+    ghost invariant = { λ a. IsKept a.limits a.number a.thread a.position a.cursors };
 }
 
 impl Actor {
@@ -107,12 +203,15 @@ impl Actor {
         ensures first { IfOk result (λ actor. actor ≡ first_actor limits.now number code.now.row) }
         ensures at { IfOk result (λ actor. IsAt code.now actor (first_thread limits.now)) }
     {
+        cursors_begin();
+        let _pages = limits.pages();
         let thread = Thread::new(alloc, code, limits, number)?;
         Ok(Actor {
             limits: *limits,
             number,
             thread,
             position: stands_at(limits, 0, Position::Start(StartAt::LoadStart)),
+            cursors: Cursors::new(),
         })
     }
 
@@ -134,6 +233,8 @@ impl Actor {
         match self.position {
             Position::Start(_) => Stop::Idle,
             Position::Access(_) => Stop::Running,
+            Position::Malloc(_) => Stop::Running,
+            Position::Free(_) => Stop::Running,
             Position::DrawPrint { value: _ } => Stop::Running,
             Position::StoreEnded { stop: _ } => { if began { Stop::Running } else { Stop::Idle } }
             Position::Over { stop } => stop,
@@ -167,10 +268,89 @@ impl Actor {
         ensures same { IsSame self.old.thread self.new.thread }
     {
         if begins(self.number, old) {
-            self.position = begin(code, &self.limits, &mut self.thread);
+            self.position = begin(code, &self.limits, &self.cursors, &mut self.thread);
             return;
         }
-        self.position = wait(&self.limits, &mut self.thread);
+        self.position = wait(&self.limits, &self.cursors, &mut self.thread);
+    }
+
+    /// Is told the answer to its request, and goes on up to the step behind.
+    fn resumed(&mut self, code: &Code, value: u64)
+        requires row { code.now.row ≤ self.old.thread.row }
+        requires pays { self.old.thread.units < self.old.thread.lim.fuel }
+        ensures stands { (rest : Behaviour) → Serves (runs code.now self.old.thread) self.old.thread.machine rest
+            → IsAt code.now self.new (going_on self.old.thread.lim self.old.cursors (self.old.thread.units + 1)
+            (told rest value)) }
+        ensures same { IsSame self.old.thread self.new.thread }
+    {
+        self.position = resume(code, &self.limits, &self.cursors, &mut self.thread, value);
+    }
+
+    /// Takes the block at a place, behind which the next malloc of its class begins to look.
+    fn took(&mut self, code: &Code, class: u8, place: u32)
+        requires row { code.now.row ≤ self.old.thread.row }
+        requires pays { self.old.thread.units < self.old.thread.lim.fuel }
+        requires block { IsPlace self.old.thread.lim class place }
+        ensures stands { (rest : Behaviour) → Serves (runs code.now self.old.thread) self.old.thread.machine rest
+            → IsAt code.now self.new (going_on self.old.thread.lim
+            (slice_set self.old.cursors class (place_behind self.old.thread.lim class place))
+            (self.old.thread.units + 1) (told rest (block_start place class))) }
+        ensures same { IsSame self.old.thread self.new.thread }
+    {
+        cursors_move();
+        let behind = place_behind(&self.limits, class, place);
+        let start = start_of(place, u64::from(class) + 1);
+        self.cursors.set(class, behind);
+        self.position = resume(code, &self.limits, &self.cursors, &mut self.thread, start);
+    }
+
+    /// Goes on with its malloc, by the answer to its step.
+    fn malloc_on(&mut self, code: &Code, at: AllocAt, old: u64)
+        requires at { self.old.position ≡ Malloc at }
+        requires row { code.now.row ≤ self.old.thread.row }
+        ensures stands { (a : threads.Thread) → IsAt code.now self.old a → IsAt code.now self.new
+            (moved_from_malloc self.old.thread.lim a (alloc_next self.old.thread.lim at old)) }
+        ensures same { IsSame self.old.thread self.new.thread }
+    {
+        mallocs_look_on();
+        let _pages = self.limits.pages();
+        let mut walk = AllocWalk::at(at, &self.limits);
+        walk.answer(old);
+        if let Some(next) = walk.position() {
+            self.position = look_on(&self.limits, &mut self.thread, next);
+            return;
+        }
+        match walk.outcome() {
+            Some(AllocOutcome::Block { place, life: _ }) => self.took(code, class_at(at), place),
+            _ => self.resumed(code, 0),
+        }
+    }
+
+    /// Goes on with its free, by the answer to its step.
+    fn freed_on(&mut self, code: &Code, at: FreeAt, old: u64)
+        requires at { self.old.position ≡ Free at }
+        requires row { code.now.row ≤ self.old.thread.row }
+        ensures stands { (a : threads.Thread) → IsAt code.now self.old a → IsAt code.now self.new
+            (moved_from_free self.old.thread.lim a (freed_address at) (free_next at old)) }
+        ensures same { IsSame self.old.thread self.new.thread }
+    {
+        let mut walk = FreeWalk::at(at, &self.limits);
+        walk.answer(old);
+        if let Some(next) = walk.position() {
+            self.position = free_on(&self.limits, &mut self.thread, next);
+            return;
+        }
+        match walk.outcome() {
+            Some(FreeOutcome::Trap(trap)) => {
+                let kind = trap_kind(freed_address(at), trap);
+                let place = self.thread.place();
+                self.thread.spend();
+                self.position = Position::StoreEnded {
+                    stop: Stop::Trap(Trap { place, kind }),
+                };
+            }
+            _ => self.resumed(code, 0),
+        }
     }
 
     /// Takes the answer to its step and goes on, up to the step behind.
@@ -183,15 +363,11 @@ impl Actor {
     {
         match self.position {
             Position::Start(StartAt::LoadStart) => self.start(code, old),
-            Position::Access(AccessAt::LoadWord { loc: _ }) => {
-                self.position = resume(code, &self.limits, &mut self.thread, old);
-            }
-            Position::Access(AccessAt::StoreWord { loc: _, value: _ }) => {
-                self.position = resume(code, &self.limits, &mut self.thread, 0);
-            }
-            Position::DrawPrint { value: _ } => {
-                self.position = resume(code, &self.limits, &mut self.thread, 0);
-            }
+            Position::Access(AccessAt::LoadWord { loc: _ }) => self.resumed(code, old),
+            Position::Access(AccessAt::StoreWord { loc: _, value: _ }) => self.resumed(code, 0),
+            Position::Malloc(at) => self.malloc_on(code, at, old),
+            Position::Free(at) => self.freed_on(code, at, old),
+            Position::DrawPrint { value: _ } => self.resumed(code, 0),
             Position::StoreEnded { stop } => {
                 self.position = Position::Over { stop };
             }

@@ -2,6 +2,7 @@
 #![tactic(auto)]
 
 mod actor;
+mod cursors;
 mod make;
 mod outcome;
 mod place;

@@ -57,6 +57,8 @@ pub(crate) fn turn_by(position: Position, step: Step) -> Turn
     match position {
         Position::Start(_) => waiting(step),
         Position::Access(_) => waiting(step),
+        Position::Malloc(_) => waiting(step),
+        Position::Free(_) => waiting(step),
         Position::DrawPrint { value: _ } => waiting(step),
         Position::StoreEnded { stop } => Turn::Stopped(step, stop),
         Position::Over { stop: _ } => waiting(step),

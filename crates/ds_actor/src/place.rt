@@ -1,16 +1,30 @@
 //! The position of a thread by what it wants.
 
-ghost use Rattle.std.specs.Prelude.{◌≡◌, nat_lt, if◌then◌else◌};
+ghost use Rattle.std.specs.Prelude.{◌≡◌, ◌<◌, nat_lt, if◌then◌else◌, IfSome};
 ghost use Rattle.ds_plain.specs.declared.Stop.TheVariants.{Fuel};
-ghost use Rattle.ds_plain.specs.declared.Position.TheVariants.{StoreEnded};
-ghost use Rattle.ds_plain.specs.declared.Request.TheVariants as requests;
+ghost use Rattle.ds_plain.specs.declared.AccessAt.TheVariants.{StoreWord};
+ghost use Rattle.ds_plain.specs.declared.Position.TheVariants.{StoreEnded, NoRow};
+ghost use Rattle.ds_plain.specs.declared.Position.TheVariants as positions;
 ghost use Rattle.ds_plain.specs.Parts.{is_whole};
-ghost use Rattle.ds_plain.specs.Table.{position_of, end_by};
+ghost use Rattle.ds_plain.specs.Freeing.{is_freeable};
+ghost use Rattle.ds_plain.specs.Searching.{search_from};
+ghost use Rattle.ds_plain.specs.Table.{position_of, looking_for, freeing_at, end_by};
 ghost use Rattle.ds_actor.specs.Actors.{stands_at, wanted_position};
 
+use crate::cursors::Cursors;
+use ds_class::class_of;
 use ds_frame::{Thread, Want};
 use ds_map::Limits;
-use ds_plain::{Access, AccessAt, Position, Request, StartAt, Stop};
+use ds_plain::{Access, AccessAt, AllocAt, FreeAt, Position, Request, Search, StartAt, Stop};
+
+/// The address of the heap's first byte.
+const HEAP_START: u64 = 0x100_0000;
+
+/// The number of bytes of a page.
+const PAGE_BYTES: u64 = 4096;
+
+/// The number of places of a page.
+const PAGE_PLACES: u32 = 256;
 
 /// Whether an access is of a whole word.
 fn is_whole(access: Access) -> bool
@@ -21,13 +35,58 @@ fn is_whole(access: Access) -> bool
 
 /// The position of a store.
 fn store_at(access: Access, value: u64) -> Position
-    ensures { result ≡ position_of (requests.Store access value) }
+    ensures { result ≡ (if is_whole access then positions.Access (StoreWord access.loc value) else NoRow) }
 {
     if is_whole(access) {
         Position::Access(AccessAt::StoreWord {
             loc: access.loc,
             value,
         })
+    } else {
+        Position::NoRow
+    }
+}
+
+/// How a thread begins to look for a block of a size class, from this place on.
+fn search_from(class: u8, first: u32) -> Search
+    ensures { result ≡ search_from class first }
+{
+    Search {
+        class,
+        first,
+        passed: 0,
+        again: first % PAGE_PLACES != 0,
+    }
+}
+
+/// The position of a thread that asks for a block of a size class.
+fn looking_for(cursors: &Cursors, class: Option<u8>) -> Position
+    requires { IfSome class (λ c. c < 15) }
+    ensures { result ≡ looking_for cursors.now class }
+{
+    match class {
+        None => Position::NoRow,
+        Some(class) => Position::Malloc(AllocAt::LoadPage {
+            search: search_from(class, cursors.at(class)),
+        }),
+    }
+}
+
+/// Whether a free can be asked for an address: it lies in the heap and is a multiple of 8.
+fn is_freeable(limits: &Limits, address: u64) -> bool
+    ensures { result ≡ is_freeable limits.now address }
+{
+    address >= HEAP_START
+        && address < HEAP_START + PAGE_BYTES * u64::from(limits.pages())
+        && address % 8 == 0
+}
+
+/// The position of a thread that asks to free an address.
+fn freeing_at(limits: &Limits, address: u64) -> Position
+    ensures { result ≡ freeing_at limits.now address }
+{
+    if is_freeable(limits, address) {
+        Position::Free(FreeAt::LoadPage { address })
     } else {
         Position::NoRow
     }
@@ -48,8 +107,8 @@ fn end_by(stop: Stop) -> Position
 }
 
 /// The first position of a request.
-fn position_of(request: Request) -> Position
-    ensures { result ≡ position_of request }
+fn position_of(limits: &Limits, cursors: &Cursors, request: Request) -> Position
+    ensures { result ≡ position_of limits.now cursors.now request }
 {
     match request {
         Request::Load(access) => Position::Access(AccessAt::LoadWord { loc: access.loc }),
@@ -60,8 +119,8 @@ fn position_of(request: Request) -> Position
             expected: _,
             new: _,
         } => Position::NoRow,
-        Request::Malloc(_) => Position::NoRow,
-        Request::Free(_) => Position::NoRow,
+        Request::Malloc(bytes) => looking_for(cursors, class_of(bytes)),
+        Request::Free(address) => freeing_at(limits, address),
         Request::Note { loc: _, value: _ } => Position::NoRow,
         Request::Print(value) => Position::DrawPrint { value },
         Request::Spawn {
@@ -75,12 +134,12 @@ fn position_of(request: Request) -> Position
 }
 
 /// Where a thread comes that wants this.
-fn wanted_position(want: Want) -> Position
-    ensures { result ≡ wanted_position want }
+fn wanted_position(limits: &Limits, cursors: &Cursors, want: Want) -> Position
+    ensures { result ≡ wanted_position limits.now cursors.now want }
 {
     match want {
         Want::Begin => Position::Start(StartAt::LoadStart),
-        Want::Asks(request) => position_of(request),
+        Want::Asks(request) => position_of(limits, cursors, request),
     }
 }
 
@@ -102,6 +161,8 @@ pub(crate) fn stands_at(limits: &Limits, units: u32, position: Position) -> Posi
     match position {
         Position::Start(_) => paid(limits, units, position),
         Position::Access(_) => paid(limits, units, position),
+        Position::Malloc(_) => paid(limits, units, position),
+        Position::Free(_) => paid(limits, units, position),
         Position::DrawPrint { value: _ } => paid(limits, units, position),
         Position::StoreEnded { stop: _ } => position,
         Position::Over { stop: _ } => position,
@@ -110,8 +171,13 @@ pub(crate) fn stands_at(limits: &Limits, units: u32, position: Position) -> Posi
 }
 
 /// The position of a thread by what it wants and has spent.
-pub(crate) fn position_by(limits: &Limits, thread: &Thread) -> Position
-    ensures { result ≡ stands_at limits.now thread.now.units (wanted_position thread.now.want) }
+pub(crate) fn position_by(limits: &Limits, cursors: &Cursors, thread: &Thread) -> Position
+    ensures { result ≡ stands_at limits.now thread.now.units
+        (wanted_position limits.now cursors.now thread.now.want) }
 {
-    stands_at(limits, thread.units(), wanted_position(thread.want()))
+    stands_at(
+        limits,
+        thread.units(),
+        wanted_position(limits, cursors, thread.want()),
+    )
 }

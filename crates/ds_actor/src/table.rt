@@ -6,9 +6,14 @@ ghost use Rattle.ds_map.specs.Words.{control_words, words};
 ghost use Rattle.ds_plain.specs.Table.{op_at, row_at, event_at, start_word, start_op, start_row, start_event};
 ghost use Rattle.ds_plain.specs.Table.{access_op, access_row, access_event, load_of, store_of, step_at};
 ghost use Rattle.ds_plain.specs.Asking.{IsWithin, loc_of};
+ghost use Rattle.ds_plain.specs.Freeing.{free_row, free_event};
+ghost use Rattle.ds_plain.specs.Reached.{IsAllocAt, IsFreeAt};
+ghost use Rattle.ds_plain.specs.Searching.{alloc_row, alloc_event};
 
+use ds_alloc::AllocWalk;
 use ds_map::{Limits, word_of};
-use ds_plain::{AccessAt, Position, StartAt};
+use ds_mark::FreeWalk;
+use ds_plain::{AccessAt, AllocAt, FreeAt, Position, StartAt};
 use ds_step::{Event, OpKind, Step, WordOp};
 
 /// The word that counts the prints.
@@ -86,6 +91,8 @@ pub fn op_of(limits: &Limits, thread: u8, position: Position) -> WordOp
     match position {
         Position::Start(at) => start_op_of(thread, at),
         Position::Access(at) => access_op_of(limits, at),
+        Position::Malloc(at) => AllocWalk::at(at, limits).op(),
+        Position::Free(at) => FreeWalk::at(at, limits).op(),
         Position::DrawPrint { value: _ } => WordOp {
             kind: OpKind::Add,
             word: PRINTS_WORD,
@@ -122,14 +129,39 @@ fn access_meaning_of(at: AccessAt, old: u64) -> (u8, Event)
     }
 }
 
+/// The number of a row of a malloc, and what the answer means there.
+fn alloc_meaning_of(limits: &Limits, at: AllocAt, old: u64) -> (u8, Event)
+    requires { IsAllocAt limits.now at }
+    ensures row { result.0 ≡ alloc_row at }
+    ensures event { result.1 ≡ alloc_event limits.now at old }
+{
+    let mut walk = AllocWalk::at(at, limits);
+    let row = walk.row();
+    (row, walk.answer(old))
+}
+
+/// The number of a row of a free, and what the answer means there.
+fn free_meaning_of(limits: &Limits, at: FreeAt, old: u64) -> (u8, Event)
+    requires { IsFreeAt limits.now at }
+    ensures row { result.0 ≡ free_row at }
+    ensures event { result.1 ≡ free_event at old }
+{
+    let mut walk = FreeWalk::at(at, limits);
+    let row = walk.row();
+    (row, walk.answer(old))
+}
+
 /// The number of a position's row, and what the answer means there.
-fn meaning_of(thread: u8, position: Position, old: u64) -> (u8, Event)
+fn meaning_of(limits: &Limits, thread: u8, position: Position, old: u64) -> (u8, Event)
+    requires { IsWithin limits.now position }
     ensures row { result.0 ≡ row_at position }
-    ensures event { result.1 ≡ event_at thread position old }
+    ensures event { result.1 ≡ event_at limits.now thread position old }
 {
     match position {
         Position::Start(at) => start_meaning_of(thread, at, old),
         Position::Access(at) => access_meaning_of(at, old),
+        Position::Malloc(at) => alloc_meaning_of(limits, at, old),
+        Position::Free(at) => free_meaning_of(limits, at, old),
         Position::DrawPrint { value } => (13, Event::Print { number: old, value }),
         Position::StoreEnded { stop: _ } => (12, Event::End),
         Position::Over { stop: _ } => (0, Event::Log),
@@ -143,7 +175,7 @@ pub fn step_of(limits: &Limits, thread: u8, position: Position, old: u64) -> Ste
     requires location { IsWithin limits.now position }
     ensures { result ≡ step_at limits.now thread position old }
 {
-    let (row, event) = meaning_of(thread, position, old);
+    let (row, event) = meaning_of(limits, thread, position, old);
     Step {
         op: op_of(limits, thread, position),
         old,

@@ -2,4 +2,4 @@ pub mod Moves
 pub mod Turned
 pub mod Recorded
 pub mod Firsts
-pub mod Returning
+pub mod Passing

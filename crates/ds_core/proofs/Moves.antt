@@ -1,9 +1,10 @@
 -- Where a step leads a thread whose program asks only for what has a row.
 use Rattle.std.proofs.Common.{◌≡◌, ℕ, suc, ◌+◌, ◌-◌, ◌<◌, ◌≤◌, Bool, true, false, not, if◌then◌else◌, ◌∷◌}
-use Rattle.std.proofs.Common.{refl, arith, [], subst, sym}
+use Rattle.std.proofs.Common.{refl, arith, List, [], Option, Some, None, subst, sym, slice_set}
 use Rattle.std.specs.Prelude.{nat_lt, nat_le}
 use Rattle.std.proofs.lemmas.Bool.{cond_both, ltb-true, leb-true}
 use Rattle.ds_map.specs.Bounds.{Bounds}
+use Rattle.ds_map.specs.Blocks.{class_of, block_start}
 use Rattle.ds_step.specs.declared.Event.TheVariants as events
 use Rattle.ds_plain.specs.declared.Stop.{Stop}
 use Rattle.ds_plain.specs.declared.Stop.TheVariants.{Idle, Running, Returned, Trap, Full, Fuel}
@@ -13,15 +14,21 @@ use Rattle.ds_plain.specs.declared.Request.TheVariants as requests
 use Rattle.ds_plain.specs.declared.StartAt.TheVariants.{LoadStart}
 use Rattle.ds_plain.specs.declared.AccessAt.TheVariants.{LoadWord, StoreWord}
 use Rattle.ds_plain.specs.declared.Position.{Position}
-use Rattle.ds_plain.specs.declared.Position.TheVariants.{Start, Access, DrawPrint, StoreEnded, Over, NoRow}
-use Rattle.ds_plain.specs.Behaviour.{Asked, Asks, Silent, Behaviour, told, Program}
+use Rattle.ds_plain.specs.declared.Position.TheVariants.{Start, Access, Malloc, Free, DrawPrint, StoreEnded, Over, NoRow}
+use Rattle.ds_plain.specs.Behaviour.{Asked, Asks, Silent, Behaviour, place_in_text, told, Program}
 use Rattle.ds_plain.specs.Parts.{is_whole}
-use Rattle.ds_plain.specs.Table.{begins, position_of, is_over, step_at, end_by}
-use Rattle.ds_plain.specs.Thread.{Thread, paying, standing, arriving, going_on, moved, first_thread}
+use Rattle.ds_plain.specs.declared.FreeAt.TheVariants as frees
+use Rattle.ds_plain.specs.Plain.{trap_stop}
+use Rattle.ds_plain.specs.Searching.{AllocNext, Looks, Takes, TakesNone, place_behind, alloc_next}
+use Rattle.ds_plain.specs.Freeing.{FreeNext, FreesOn, Freed, FailsFree, free_next, is_freeable}
+use Rattle.ds_plain.specs.Table.{begins, looking_for, position_of, is_over, step_at, end_by}
+use Rattle.ds_plain.specs.Thread.{Thread, paying, standing, arriving, going_on, moved_from_malloc, moved_from_free}
+use Rattle.ds_plain.specs.Thread.{freed_address, trap_kind, moved, first_cursors, first_thread}
 use Rattle.ds_plain.specs.Turns.{passing_of, ends_thread, is_end}
 use Rattle.ds_plain.specs.Asking.{has_row, AsksRows, HasRows}
 use Rattle.ds_plain.specs.Explained.{HasEnded}
 use Rattle.ds_core.specs.Fits.{FitsAt, Fits, steps_left}
+use Rattle.ds_core.proofs.Passing.{malloc_goes_on, free_goes_on}
 
 -- a thread has come so far, with at least these units spent
 record Comes (lim : Bounds) (units : ℕ) (behaves : Behaviour) (a : Thread) : Type 0 where
@@ -34,40 +41,49 @@ earlier : (lim : Bounds) (units more : ℕ) (behaves : Behaviour) (a : Thread) �
 earlier lim units more behaves a le c = record { at = c.at; rest = c.rest; left = omega (arith, c.left, le) }
 
 -- a thread that its fuel does not pay for stands at its last step
-out_of_fuel : (lim : Bounds) (behaves : Behaviour) (least units : ℕ) (began : Bool) → least ≤ units → units ≤ lim.fuel
-    → Comes lim least behaves (record { rest = behaves; position = StoreEnded Fuel; units = units; began = began })
-out_of_fuel lim behaves least units began le inside =
+out_of_fuel : (lim : Bounds) (cursors : List ℕ) (behaves : Behaviour) (least units : ℕ) (began : Bool)
+    → least ≤ units → units ≤ lim.fuel
+    → Comes lim least behaves
+    (record { rest = behaves; position = StoreEnded Fuel; units = units; began = began; cursors = cursors })
+out_of_fuel lim cursors behaves least units began le inside =
     record { at = (refl, inside, tt); rest = refl; left = omega (arith, le, inside) }
 
-paying_comes : (lim : Bounds) (behaves : Behaviour) (units : ℕ) (began : Bool) (p : Position) → units ≤ lim.fuel
-    → (units < lim.fuel → FitsAt lim false p units) → steps_left lim.fuel p units ≤ suc (lim.fuel - units)
-    → Comes lim units behaves (paying lim behaves units began p)
-paying_comes lim behaves units began p inside fits left =
+paying_comes : (lim : Bounds) (cursors : List ℕ) (behaves : Behaviour) (units : ℕ) (began : Bool) (p : Position)
+    → units ≤ lim.fuel → (units < lim.fuel → FitsAt lim false p units)
+    → steps_left lim.fuel p units ≤ suc (lim.fuel - units)
+    → Comes lim units behaves (paying lim cursors behaves units began p)
+paying_comes lim cursors behaves units began p inside fits left =
     cond_both (nat_lt units lim.fuel) _ _ (λ (a : Thread). Comes lim units behaves a)
     (λ e. record { at = fits (ltb-true units lim.fuel e); rest = refl; left = left })
-    (λ e. out_of_fuel lim behaves units units began (omega arith) inside)
+    (λ e. out_of_fuel lim cursors behaves units units began (omega arith) inside)
 
 -- an end is one
 abbrev EndsWell : Position → Type 0
 EndsWell (Start at) = Unit {0}
 EndsWell (Access at) = Unit {0}
+EndsWell (Malloc at) = Unit {0}
+EndsWell (Free at) = Unit {0}
 EndsWell (DrawPrint value) = Unit {0}
 EndsWell (StoreEnded stop) = HasEnded stop
 EndsWell (Over stop) = ⊥
 EndsWell NoRow = ⊥
 
-standing_comes : (lim : Bounds) (behaves : Behaviour) (units : ℕ) (began : Bool) (p : Position) → units ≤ lim.fuel
-    → EndsWell p → Comes lim units behaves (standing lim behaves units began p)
-standing_comes lim behaves units began (Start at) inside well =
-    paying_comes lim behaves units began (Start at) inside (λ lt. (refl, lt)) (omega arith)
-standing_comes lim behaves units began (Access at) inside well =
-    paying_comes lim behaves units began (Access at) inside (λ lt. (refl, lt)) (omega arith)
-standing_comes lim behaves units began (DrawPrint value) inside well =
-    paying_comes lim behaves units began (DrawPrint value) inside (λ lt. (refl, lt)) (omega arith)
-standing_comes lim behaves units began (StoreEnded stop) inside well =
+standing_comes : (lim : Bounds) (cursors : List ℕ) (behaves : Behaviour) (units : ℕ) (began : Bool) (p : Position)
+    → units ≤ lim.fuel → EndsWell p → Comes lim units behaves (standing lim cursors behaves units began p)
+standing_comes lim cursors behaves units began (Start at) inside well =
+    paying_comes lim cursors behaves units began (Start at) inside (λ lt. (refl, lt)) (omega arith)
+standing_comes lim cursors behaves units began (Access at) inside well =
+    paying_comes lim cursors behaves units began (Access at) inside (λ lt. (refl, lt)) (omega arith)
+standing_comes lim cursors behaves units began (Malloc at) inside well =
+    paying_comes lim cursors behaves units began (Malloc at) inside (λ lt. (refl, lt)) (omega arith)
+standing_comes lim cursors behaves units began (Free at) inside well =
+    paying_comes lim cursors behaves units began (Free at) inside (λ lt. (refl, lt)) (omega arith)
+standing_comes lim cursors behaves units began (DrawPrint value) inside well =
+    paying_comes lim cursors behaves units began (DrawPrint value) inside (λ lt. (refl, lt)) (omega arith)
+standing_comes lim cursors behaves units began (StoreEnded stop) inside well =
     record { at = (refl, inside, well); rest = refl; left = omega arith }
-standing_comes lim behaves units began (Over stop) inside well = absurd well
-standing_comes lim behaves units began NoRow inside well = absurd well
+standing_comes lim cursors behaves units began (Over stop) inside well = absurd well
+standing_comes lim cursors behaves units began NoRow inside well = absurd well
 
 stop_ends : (stop : Stop) → not (is_over (end_by stop)) ≡ true → EndsWell (end_by stop)
 stop_ends Idle row = cc
@@ -83,88 +99,140 @@ store_ends : (b : Bool) (access : Accesses) (value : ℕ)
 store_ends true access value row = tt
 store_ends false access value row = cc
 
-request_ends : (request : Request) → not (is_over (position_of request)) ≡ true → EndsWell (position_of request)
-request_ends (requests.Load access) row = tt
-request_ends (requests.Store access value) row = store_ends (is_whole access) access value row
-request_ends (requests.Rmw access op value) row = cc
-request_ends (requests.Cas access expected new) row = cc
-request_ends (requests.Malloc bytes) row = cc
-request_ends (requests.Free address) row = cc
-request_ends (requests.Note loc value) row = cc
-request_ends (requests.Print value) row = tt
-request_ends (requests.Spawn loc function arg) row = cc
-request_ends (requests.Join number) row = cc
-request_ends (requests.Stop stop) row = stop_ends stop row
+malloc_ends : (cursors : List ℕ) (class : Option ℕ) → not (is_over (looking_for cursors class)) ≡ true
+    → EndsWell (looking_for cursors class)
+malloc_ends cursors None row = cc
+malloc_ends cursors (Some class) row = tt
 
-arriving_comes : (lim : Bounds) (behaves : Behaviour) (units : ℕ) (asked : Asked) → units ≤ lim.fuel
-    → has_row asked ≡ true → Comes lim units behaves (arriving lim behaves units asked)
-arriving_comes lim behaves units (Asks begun place request) inside row =
+free_ends : (b : Bool) (address : ℕ) → not (is_over (if b then Free (frees.LoadPage address) else NoRow)) ≡ true
+    → EndsWell (if b then Free (frees.LoadPage address) else NoRow)
+free_ends true address row = tt
+free_ends false address row = cc
+
+request_ends : (lim : Bounds) (cursors : List ℕ) (request : Request)
+    → not (is_over (position_of lim cursors request)) ≡ true → EndsWell (position_of lim cursors request)
+request_ends lim cursors (requests.Load access) row = tt
+request_ends lim cursors (requests.Store access value) row = store_ends (is_whole access) access value row
+request_ends lim cursors (requests.Rmw access op value) row = cc
+request_ends lim cursors (requests.Cas access expected new) row = cc
+request_ends lim cursors (requests.Malloc bytes) row = malloc_ends cursors (class_of bytes) row
+request_ends lim cursors (requests.Free address) row = free_ends (is_freeable lim address) address row
+request_ends lim cursors (requests.Note loc value) row = cc
+request_ends lim cursors (requests.Print value) row = tt
+request_ends lim cursors (requests.Spawn loc function arg) row = cc
+request_ends lim cursors (requests.Join number) row = cc
+request_ends lim cursors (requests.Stop stop) row = stop_ends stop row
+
+arriving_comes : (lim : Bounds) (cursors : List ℕ) (behaves : Behaviour) (units : ℕ) (asked : Asked) → units ≤ lim.fuel
+    → has_row lim cursors asked ≡ true → Comes lim units behaves (arriving lim cursors behaves units asked)
+arriving_comes lim cursors behaves units (Asks begun place request) inside row =
     cond_both (nat_le (units + begun) lim.fuel) _ _ (λ (a : Thread). Comes lim units behaves a)
     (λ e. earlier lim units (units + begun) behaves _ (omega arith)
-    (standing_comes lim behaves (units + begun) true (position_of request) (leb-true _ _ e) (request_ends request
-    row)))
-    (λ e. out_of_fuel lim behaves units lim.fuel true inside (omega arith))
-arriving_comes lim behaves units Silent inside row = out_of_fuel lim behaves units lim.fuel true inside (omega arith)
+    (standing_comes lim cursors behaves (units + begun) true (position_of lim cursors request) (leb-true _ _ e)
+    (request_ends lim cursors request row)))
+    (λ e. out_of_fuel lim cursors behaves units lim.fuel true inside (omega arith))
+arriving_comes lim cursors behaves units Silent inside row =
+    out_of_fuel lim cursors behaves units lim.fuel true inside (omega arith)
 
-goes_on : (lim : Bounds) (units : ℕ) (behaves : Behaviour) → units ≤ lim.fuel → AsksRows behaves
-    → Comes lim units behaves (going_on lim units behaves)
-goes_on lim units behaves inside rows = arriving_comes lim behaves units (behaves []) inside (rows [])
+goes_on : (lim : Bounds) (cursors : List ℕ) (units : ℕ) (behaves : Behaviour) → units ≤ lim.fuel
+    → AsksRows lim behaves → Comes lim units behaves (going_on lim cursors units behaves)
+goes_on lim cursors units behaves inside rows =
+    arriving_comes lim cursors behaves units (behaves []) inside (rows cursors [])
 
 -- a step has led from one place to another: the thread has ended or not, and is nearer to its end
 pub record Moves (lim : Bounds) (ended : Bool) (before : ℕ) (a : Thread) : Type 0 where
   pub fits : Fits lim ended a
   pub fewer : steps_left lim.fuel a.position a.units < before
 
-comes_nearer : (lim : Bounds) (units : ℕ) (behaves : Behaviour) (a : Thread) → units < lim.fuel → AsksRows behaves
+comes_nearer : (lim : Bounds) (units : ℕ) (behaves : Behaviour) (a : Thread) → units < lim.fuel → AsksRows lim behaves
     → Comes lim (units + 1) behaves a → Moves lim false (suc (lim.fuel - units)) a
 comes_nearer lim units behaves a paid rows c = record {
-  fits = record { at = c.at; rows = subst AsksRows (sym c.rest) rows };
+  fits = record { at = c.at; rows = subst (AsksRows lim) (sym c.rest) rows };
   fewer = omega (arith, c.left, paid);
 }
 
-starts : (program : Program) (lim : Bounds) (t units : ℕ) (behaves : Behaviour) (began b : Bool) → HasRows program
-    → units < lim.fuel → AsksRows behaves
+-- a thread that is told an answer
+told_nearer : (lim : Bounds) (cursors : List ℕ) (units answer : ℕ) (behaves : Behaviour) → units < lim.fuel
+    → AsksRows lim behaves
+    → Moves lim false (suc (lim.fuel - units)) (going_on lim cursors (units + 1) (told behaves answer))
+told_nearer lim cursors units answer behaves paid asks =
+    comes_nearer lim units (told behaves answer) _ paid (λ cs answers. asks cs (answer ∷ answers))
+    (goes_on lim cursors (units + 1) (told behaves answer) (omega (arith, paid)) (λ cs answers. asks cs (answer ∷ answers)))
+
+starts : (program : Program) (lim : Bounds) (cursors : List ℕ) (t units : ℕ) (behaves : Behaviour) (began b : Bool)
+    → HasRows lim program → units < lim.fuel → AsksRows lim behaves
     → Moves lim (ends_thread (passing_of (if b then events.Begin else events.Log))) (suc (lim.fuel - units))
-    (if b then going_on lim (units + 1) (program.behaves t program.main 0)
-    else standing lim behaves (units + 1) began (Start LoadStart))
-starts program lim t units behaves began true rows paid asks =
+    (if b then going_on lim cursors (units + 1) (program.behaves t program.main 0)
+    else standing lim cursors behaves (units + 1) began (Start LoadStart))
+starts program lim cursors t units behaves began true rows paid asks =
     comes_nearer lim units (program.behaves t program.main 0) _ paid (rows t program.main 0)
-    (goes_on lim (units + 1) (program.behaves t program.main 0) (omega (arith, paid)) (rows t program.main 0))
-starts program lim t units behaves began false rows paid asks =
+    (goes_on lim cursors (units + 1) (program.behaves t program.main 0) (omega (arith, paid)) (rows t program.main 0))
+starts program lim cursors t units behaves began false rows paid asks =
     comes_nearer lim units behaves _ paid asks
-    (standing_comes lim behaves (units + 1) began (Start LoadStart) (omega (arith, paid)) tt)
+    (standing_comes lim cursors behaves (units + 1) began (Start LoadStart) (omega (arith, paid)) tt)
+
+-- a malloc goes on, or is told an answer; no event of it is an end
+malloc_moves : (lim : Bounds) (a : Thread) (next : AllocNext) → a.units < lim.fuel → AsksRows lim a.rest
+    → Moves lim false (suc (lim.fuel - a.units)) (moved_from_malloc lim a next)
+malloc_moves lim a (Looks at) paid asks =
+    comes_nearer lim a.units a.rest _ paid asks
+    (standing_comes lim a.cursors a.rest (a.units + 1) a.began (Malloc at) (omega (arith, paid)) tt)
+malloc_moves lim a (Takes class place life) paid asks =
+    told_nearer lim (slice_set a.cursors class (place_behind lim class place)) a.units (block_start place class) a.rest
+    paid asks
+malloc_moves lim a TakesNone paid asks = told_nearer lim a.cursors a.units 0 a.rest paid asks
+
+free_moves : (lim : Bounds) (a : Thread) (address : ℕ) (next : FreeNext) → a.units < lim.fuel → AsksRows lim a.rest
+    → Moves lim false (suc (lim.fuel - a.units)) (moved_from_free lim a address next)
+free_moves lim a address (FreesOn at) paid asks =
+    comes_nearer lim a.units a.rest _ paid asks
+    (standing_comes lim a.cursors a.rest (a.units + 1) a.began (Free at) (omega (arith, paid)) tt)
+free_moves lim a address Freed paid asks = told_nearer lim a.cursors a.units 0 a.rest paid asks
+free_moves lim a address (FailsFree trap) paid asks =
+    comes_nearer lim a.units a.rest _ paid asks
+    (standing_comes lim a.cursors a.rest (a.units + 1) a.began
+    (StoreEnded (trap_stop (place_in_text (a.rest [])) (trap_kind address trap))) (omega (arith, paid)) tt)
 
 moves_from : (program : Program) (lim : Bounds) (t : ℕ) (behaves : Behaviour) (p : Position) (units : ℕ) (began : Bool)
-    (old : ℕ) → HasRows program → FitsAt lim false p units → AsksRows behaves
-    → Moves lim (is_end (step_at lim t p old)) (steps_left lim.fuel p units)
-    (moved program lim t (record { rest = behaves; position = p; units = units; began = began }) old)
-moves_from program lim t behaves (Start LoadStart) units began old rows fits asks =
-    starts program lim t units behaves began (begins t old) rows fits.1 asks
-moves_from program lim t behaves (Access (LoadWord loc)) units began old rows fits asks =
-    comes_nearer lim units (told behaves old) _ fits.1 (λ answers. asks (old ∷ answers))
-    (goes_on lim (units + 1) (told behaves old) (omega (arith, fits.1)) (λ answers. asks (old ∷ answers)))
-moves_from program lim t behaves (Access (StoreWord loc value)) units began old rows fits asks =
-    comes_nearer lim units (told behaves 0) _ fits.1 (λ answers. asks (0 ∷ answers))
-    (goes_on lim (units + 1) (told behaves 0) (omega (arith, fits.1)) (λ answers. asks (0 ∷ answers)))
-moves_from program lim t behaves (DrawPrint value) units began old rows fits asks =
-    comes_nearer lim units (told behaves 0) _ fits.1 (λ answers. asks (0 ∷ answers))
-    (goes_on lim (units + 1) (told behaves 0) (omega (arith, fits.1)) (λ answers. asks (0 ∷ answers)))
-moves_from program lim t behaves (StoreEnded stop) units began old rows fits asks =
+    (cursors : List ℕ) (old : ℕ) → HasRows lim program → FitsAt lim false p units → AsksRows lim behaves
+    → Moves lim (is_end (step_at lim t p old)) (steps_left lim.fuel p units) (moved program lim t
+    (record { rest = behaves; position = p; units = units; began = began; cursors = cursors }) old)
+moves_from program lim t behaves (Start LoadStart) units began cursors old rows fits asks =
+    starts program lim cursors t units behaves began (begins t old) rows fits.1 asks
+moves_from program lim t behaves (Access (LoadWord loc)) units began cursors old rows fits asks =
+    told_nearer lim cursors units old behaves fits.1 asks
+moves_from program lim t behaves (Access (StoreWord loc value)) units began cursors old rows fits asks =
+    told_nearer lim cursors units 0 behaves fits.1 asks
+moves_from program lim t behaves (Malloc at) units began cursors old rows fits asks =
+    let a : Thread =
+    record { rest = behaves; position = Malloc at; units = units; began = began; cursors = cursors } in
+    subst (λ b. Moves lim b (suc (lim.fuel - units)) (moved_from_malloc lim a (alloc_next lim at old)))
+    (sym (malloc_goes_on lim at old)) (malloc_moves lim a (alloc_next lim at old) fits.1 asks)
+moves_from program lim t behaves (Free at) units began cursors old rows fits asks =
+    let a : Thread =
+    record { rest = behaves; position = Free at; units = units; began = began; cursors = cursors } in
+    subst (λ b. Moves lim b (suc (lim.fuel - units)) (moved_from_free lim a (freed_address at) (free_next at old)))
+    (sym (free_goes_on at old)) (free_moves lim a (freed_address at) (free_next at old) fits.1 asks)
+moves_from program lim t behaves (DrawPrint value) units began cursors old rows fits asks =
+    told_nearer lim cursors units 0 behaves fits.1 asks
+moves_from program lim t behaves (StoreEnded stop) units began cursors old rows fits asks =
     record { fits = record { at = (refl, fits.2); rows = asks }; fewer = omega arith }
-moves_from program lim t behaves (Over stop) units began old rows fits asks = cc
-moves_from program lim t behaves NoRow units began old rows fits asks = absurd fits
+moves_from program lim t behaves (Over stop) units began cursors old rows fits asks = cc
+moves_from program lim t behaves NoRow units began cursors old rows fits asks = absurd fits
 
 -- the step of a thread that has not ended
-pub moves : (program : Program) (lim : Bounds) (t : ℕ) (a : Thread) (old : ℕ) → HasRows program → Fits lim false a
+pub moves : (program : Program) (lim : Bounds) (t : ℕ) (a : Thread) (old : ℕ) → HasRows lim program → Fits lim false a
     → Moves lim (is_end (step_at lim t a.position old)) (steps_left lim.fuel a.position a.units)
     (moved program lim t a old)
 moves program lim t a old rows fits =
-    moves_from program lim t a.rest a.position a.units a.began old rows fits.at fits.rows
+    moves_from program lim t a.rest a.position a.units a.began a.cursors old rows fits.at fits.rows
 
 -- a thread that has not ended makes a step
 pub goes : (lim : Bounds) (p : Position) (units : ℕ) → FitsAt lim false p units → is_over p ≡ false
 goes lim (Start at) units fits = refl
 goes lim (Access at) units fits = refl
+goes lim (Malloc at) units fits = refl
+goes lim (Free at) units fits = refl
 goes lim (DrawPrint value) units fits = refl
 goes lim (StoreEnded stop) units fits = refl
 goes lim (Over stop) units fits = cc
@@ -173,5 +241,6 @@ goes lim NoRow units fits = absurd fits
 -- a thread before its first step
 pub fits_first : (lim : Bounds) → Fits lim false (first_thread lim)
 fits_first lim =
-    let c : Comes lim 0 _ (first_thread lim) = standing_comes lim _ 0 false (Start LoadStart) (omega arith) tt in
-    record { at = c.at; rows = subst AsksRows (sym c.rest) (λ answers. refl) }
+    let c : Comes lim 0 _ (first_thread lim) =
+    standing_comes lim first_cursors _ 0 false (Start LoadStart) (omega arith) tt in
+    record { at = c.at; rows = subst (AsksRows lim) (sym c.rest) (λ cursors answers. refl) }

@@ -14,7 +14,7 @@ use Rattle.ds_map.specs.Words.{first_words, words as words_of}
 use Rattle.ds_step.specs.declared.Step.{Step}
 use Rattle.ds_plain.specs.declared.Cue.{Cue}
 use Rattle.ds_plain.specs.declared.Position.{Position}
-use Rattle.ds_plain.specs.declared.Position.TheVariants.{Start, Access, DrawPrint, StoreEnded, Over, NoRow}
+use Rattle.ds_plain.specs.declared.Position.TheVariants.{Start, Access, Malloc, Free, DrawPrint, StoreEnded, Over, NoRow}
 use Rattle.ds_plain.specs.declared.Stop.{Stop}
 use Rattle.ds_plain.specs.declared.Stop.TheVariants.{Idle}
 use Rattle.ds_plain.specs.Thread.{Thread, first_thread, stop_at, stop_of}
@@ -67,6 +67,8 @@ ended_at : (lim : Bounds) (began : Bool) (p : Position) (units : ℕ) → FitsAt
     → HasEnded (stop_at began p)
 ended_at lim began (Start at) units fits = cc
 ended_at lim began (Access at) units fits = cc
+ended_at lim began (Malloc at) units fits = cc
+ended_at lim began (Free at) units fits = cc
 ended_at lim began (DrawPrint value) units fits = cc
 ended_at lim began (StoreEnded stop) units fits = cc
 ended_at lim began (Over stop) units fits = fits.1

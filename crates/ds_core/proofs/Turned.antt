@@ -16,7 +16,7 @@ use Rattle.ds_plain.specs.declared.Cue.{Cue}
 use Rattle.ds_plain.specs.declared.StartAt.TheVariants.{LoadStart}
 use Rattle.ds_plain.specs.declared.AccessAt.TheVariants.{LoadWord, StoreWord}
 use Rattle.ds_plain.specs.declared.Position.{Position}
-use Rattle.ds_plain.specs.declared.Position.TheVariants.{Start, Access, DrawPrint, StoreEnded, Over, NoRow}
+use Rattle.ds_plain.specs.declared.Position.TheVariants.{Start, Access, Malloc, Free, DrawPrint, StoreEnded, Over, NoRow}
 use Rattle.ds_plain.specs.State.{replaced}
 use Rattle.ds_plain.specs.Table.{begins, op_at, step_at, event_at, is_over}
 use Rattle.ds_plain.specs.Thread.{Thread, moved}
@@ -33,6 +33,7 @@ use Rattle.ds_actor.specs.Actors.{ActorState, IsAt, IsSame, waiting, turn_by, tu
 use Rattle.ds_schedule.specs.Standing.{Standing, StandsAt, main_has_ended}
 use Rattle.ds_core.specs.Fits.{Fits, steps_left}
 use Rattle.ds_core.specs.Standing.{IsActor, Runs, main_left, left_of}
+use Rattle.ds_core.proofs.Passing.{malloc_passes, free_passes}
 use Rattle.ds_core.proofs.Moves.{Moves, moves, goes}
 
 -- SCHEDULES
@@ -56,21 +57,23 @@ ended_then turns step [] not_yet = ended_by (passing_of step.event) turns.ended 
 ended_then turns step (cue ∷ cues) not_yet = ended_by (passing_of step.event) turns.ended not_yet
 
 -- no row gives out a thread
-gives_none : (t : ℕ) (p : Position) (old given : ℕ) → given_behind (passing_of (event_at t p old)) given ≡ given
-gives_none t (Start LoadStart) old given =
-    cond_both (begins t old) _ _ (λ (event : Event). given_behind (passing_of event) given ≡ given) (λ e. refl) (λ e.
-    refl)
-gives_none t (Access (LoadWord loc)) old given = refl
-gives_none t (Access (StoreWord loc value)) old given = refl
-gives_none t (DrawPrint value) old given = refl
-gives_none t (StoreEnded stop) old given = refl
-gives_none t (Over stop) old given = refl
-gives_none t NoRow old given = refl
+gives_none : (lim : Bounds) (t : ℕ) (p : Position) (old given : ℕ) → given_behind (passing_of (event_at lim t p old)) given ≡ given
+gives_none lim t (Start LoadStart) old given =
+    cond_both (begins t old) _ _ (λ (event : Event). given_behind (passing_of event) given ≡ given) (λ e. refl)
+    (λ e. refl)
+gives_none lim t (Access (LoadWord loc)) old given = refl
+gives_none lim t (Access (StoreWord loc value)) old given = refl
+gives_none lim t (Malloc at) old given = ap (λ (p : Passing). given_behind p given) (malloc_passes lim at old)
+gives_none lim t (Free at) old given = ap (λ (p : Passing). given_behind p given) (free_passes at old)
+gives_none lim t (DrawPrint value) old given = refl
+gives_none lim t (StoreEnded stop) old given = refl
+gives_none lim t (Over stop) old given = refl
+gives_none lim t NoRow old given = refl
 
 given_then : (turns : Turns) (lim : Bounds) (p : Position) (old : ℕ) (cues : List Cue)
     → (turns_by turns 0 (step_at lim 0 p old) cues).given ≡ turns.given
-given_then turns lim p old [] = gives_none 0 p old turns.given
-given_then turns lim p old (cue ∷ cues) = gives_none 0 p old turns.given
+given_then turns lim p old [] = gives_none lim 0 p old turns.given
+given_then turns lim p old (cue ∷ cues) = gives_none lim 0 p old turns.given
 
 -- ACTORS
 
@@ -87,6 +90,8 @@ step_waiting step = cond_both (is_not_yet step) _ _ (λ turn. step_in turn ≡ s
 step_turned : (p : Position) (step : Step) → step_in (turn_by p step) ≡ step
 step_turned (Start at) step = step_waiting step
 step_turned (Access at) step = step_waiting step
+step_turned (Malloc at) step = step_waiting step
+step_turned (Free at) step = step_waiting step
 step_turned (DrawPrint value) step = step_waiting step
 step_turned (StoreEnded stop) step = refl
 step_turned (Over stop) step = step_waiting step
@@ -186,7 +191,7 @@ pub record MakesTurn (code : CodeParts) (words words' : List ℕ) (actors actors
 
 module _ (law : OneStepMore) (code : CodeParts) (lim : Bounds) (cues : List Cue) (seed : ℕ) (words words' : List ℕ)
     (actors actors' : List ActorState) (traces traces' : List (List Step)) (order order' : List ℕ)
-    (standing standing' : Standing) (actor actor' : ActorState) (step : Step) (rows : HasRows (program_of lim code))
+    (standing standing' : Standing) (actor actor' : ActorState) (step : Step) (rows : HasRows lim (program_of lim code))
     (makes : MakesTurn code words words' actors actors' traces traces' order order' standing standing' actor actor'
     step 0
     0)
@@ -318,7 +323,7 @@ module _ (law : OneStepMore) (code : CodeParts) (lim : Bounds) (cues : List Cue)
 module _ (law : OneStepMore) (code : CodeParts) (lim : Bounds) (cues : List Cue) (seed : ℕ) (words words' : List ℕ)
     (actors actors' : List ActorState) (traces traces' : List (List Step)) (order order' : List ℕ)
     (standing standing' : Standing) (actor actor' : ActorState) (step : Step) (thread place : ℕ)
-    (rows : HasRows (program_of lim code))
+    (rows : HasRows lim (program_of lim code))
     (may : (turns : Turns) → StandsAt standing turns → may_turn turns thread ≡ true) (same : place ≡ thread)
     (makes : MakesTurn code words words' actors actors' traces traces' order order' standing standing' actor actor'
     step

@@ -73,7 +73,7 @@ impl<'a> Recorder<'a> {
 
     /// One turn: the thread whose turn it is makes its next step, which is recorded.
     fn turn(&mut self, code: &Code, limits: &Limits) -> Result<(), AllocError>
-        requires rows { HasRows (program_of limits.now code.now) }
+        requires rows { HasRows limits.now (program_of limits.now code.now) }
         requires runs { (cues : List Cue) × (seed : ℕ) × Runs code.now limits.now cues seed self.old.table
             self.old.actors.items self.old.traces self.old.order self.old.progress }
         requires goes_on { main_has_ended self.old.progress ≡ false }
@@ -102,7 +102,7 @@ fn run<'a>(
     limits: &Limits,
     schedule: &'a Schedule,
 ) -> Result<Recorder<'a>, AllocError>
-    requires rows { HasRows (program_of limits.now code.now) }
+    requires rows { HasRows limits.now (program_of limits.now code.now) }
     requires image { length code.now.image ≤ 4096 }
     ensures runs { IfOk result (λ recorder. Runs code.now limits.now schedule.now.cues schedule.now.seed recorder.table
         recorder.actors.items recorder.traces recorder.order recorder.progress) }
@@ -136,7 +136,7 @@ pub fn replay(
     limits: &Limits,
     schedule: &Schedule,
 ) -> Result<RunRecord, AllocError>
-    requires rows { HasRows (program_of limits.now code.now) }
+    requires rows { HasRows limits.now (program_of limits.now code.now) }
     requires image { length code.now.image ≤ 4096 }
     ensures record { IfOk result (λ run. IsRecord (program_of limits.now code.now) limits.now run.stops run.traces) }
     ensures order { IfOk result (λ run. IsSomeAnd run.order (IsScheduledOrder (program_of limits.now code.now)

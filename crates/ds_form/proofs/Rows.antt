@@ -21,7 +21,7 @@ use Rattle.ds_form.proofs.Acts.{NoNote, Fits, act_fits}
 
 -- STEPS
 
-module _ (m : Module) (form : IsInForm m) where
+module _ (m : Module) (cursors : List ℕ) (form : IsInForm m) where
   -- the instruction at hand is of the form
   at_hand : (fr : Frame) (i : Instr) → instruction_of m fr ≡ Some i → IsOpInForm i.op
   at_hand fr i = by_function (slice_get m.functions fr.function) refl
@@ -41,14 +41,15 @@ module _ (m : Module) (form : IsInForm m) where
           by_block f (item_has IsFunctionInForm m.functions fr.function f is form)
           (block_among f.blocks fr.block) refl e
 
-  step_fits : (lim : Bounds) (thread : ℕ) (s : State) → NoNote s → Fits (step (context false lim m thread) s)
+  step_fits : (lim : Bounds) (thread : ℕ) (s : State) → NoNote s
+      → Fits lim cursors (step (context false lim m thread) s)
   step_fits lim thread (Runs fr below) i = by_instruction (instruction_of m fr) refl
     where
       by_instruction : (o : Option Instr) → instruction_of m fr ≡ o
-          → Fits (act_at (context false lim m thread) fr below o)
+          → Fits lim cursors (act_at (context false lim m thread) fr below o)
       by_instruction None is = tt
       by_instruction (Some j) is =
-          act_fits m lim thread (current (context false lim m thread) fr below j.result) form j.op
+          act_fits m lim cursors thread (current (context false lim m thread) fr below j.result) form j.op
           (at_hand fr j is)
   step_fits lim thread (Notes at' value fr below) i = absurd i
   step_fits lim thread (TooLarge function) i = refl
@@ -56,18 +57,20 @@ module _ (m : Module) (form : IsInForm m) where
 -- ALL STEPS
 
 -- one instruction more changes no request
-one_more_row : (a : Asked) → has_row a ≡ true → has_row (one_more a) ≡ true
-one_more_row (Asks begun place request) h = h
-one_more_row Silent h = refl
+one_more_row : (lim : Bounds) (cursors : List ℕ) (a : Asked) → has_row lim cursors a ≡ true
+    → has_row lim cursors (one_more a) ≡ true
+one_more_row lim cursors (Asks begun place request) h = h
+one_more_row lim cursors Silent h = refl
 
-module _ (go : State → Outcome State) (fits : (s : State) → NoNote s → Fits (go s)) where
-  ask_row : (n : ℕ) (s : State) → NoNote s → has_row (ask go n s) ≡ true
+module _ (lim : Bounds) (cursors : List ℕ) (go : State → Outcome State)
+    (fits : (s : State) → NoNote s → Fits lim cursors (go s)) where
+  ask_row : (n : ℕ) (s : State) → NoNote s → has_row lim cursors (ask go n s) ≡ true
   ask_row zero s i = refl
   ask_row (suc n) s i = by_outcome (λ t j. ask_row n t j) (go s) (fits s i)
     where
-      by_outcome : ((t : State) → NoNote t → has_row (ask go n t) ≡ true) → (o : Outcome State) → Fits o
-          → has_row (asked_by (ask go n) o) ≡ true
-      by_outcome rec (Goes t) j = one_more_row (ask go n t) (rec t j)
+      by_outcome : ((t : State) → NoNote t → has_row lim cursors (ask go n t) ≡ true) → (o : Outcome State)
+          → Fits lim cursors o → has_row lim cursors (asked_by (ask go n) o) ≡ true
+      by_outcome rec (Goes t) j = one_more_row lim cursors (ask go n t) (rec t j)
       by_outcome rec (Wants place request answered) j = j.0
       by_outcome rec (Stops place stop) j = j
       by_outcome rec Stuck j = refl
@@ -76,14 +79,15 @@ module _ (go : State → Outcome State) (fits : (s : State) → NoNote s → Fit
   tell_keeps zero s answer i = i
   tell_keeps (suc n) s answer i = by_outcome (λ t j. tell_keeps n t answer j) (go s) (fits s i)
     where
-      by_outcome : ((t : State) → NoNote t → NoNote (tell go n t answer)) → (o : Outcome State) → Fits o
-          → NoNote (told_by (λ t. tell go n t answer) s answer o)
+      by_outcome : ((t : State) → NoNote t → NoNote (tell go n t answer)) → (o : Outcome State)
+          → Fits lim cursors o → NoNote (told_by (λ t. tell go n t answer) s answer o)
       by_outcome rec (Goes t) j = rec t j
       by_outcome rec (Wants place request answered) j = j.1 _
       by_outcome rec (Stops place stop) j = i
       by_outcome rec Stuck j = i
 
-  all_rows : (n : ℕ) (answers : List ℕ) (s : State) → NoNote s → has_row (behaviour go n s answers) ≡ true
+  all_rows : (n : ℕ) (answers : List ℕ) (s : State) → NoNote s
+      → has_row lim cursors (behaviour go n s answers) ≡ true
   all_rows n [] s i = ask_row n s i
   all_rows n (answer ∷ answers) s i = all_rows n answers (tell go n s answer) (tell_keeps n s answer i)
 
@@ -102,6 +106,6 @@ start_plain m function argument (Some f) = by_room (has_room m [] f)
 -- THE LAW
 
 pub forms_ask_rows : FormsAskRows
-forms_ask_rows m lim form thread function argument answers =
-    all_rows (step (context false lim m thread)) (λ s i. step_fits m form lim thread s i) lim.fuel answers
-    (start m function argument) (start_plain m function argument (slice_get m.functions function))
+forms_ask_rows m lim form thread function argument cursors answers =
+    all_rows lim cursors (step (context false lim m thread)) (λ s i. step_fits m cursors form lim thread s i) lim.fuel
+    answers (start m function argument) (start_plain m function argument (slice_get m.functions function))

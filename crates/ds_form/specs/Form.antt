@@ -1,5 +1,7 @@
--- The modules that this stage of the program can run: they load and store whole words, and declare the print alone.
+-- The modules that this stage of the program can run: they load and store whole words, and declare the print, malloc
+-- and free alone.
 use Rattle.std.specs.Prelude.{◌≡◌, ◌⊎◌, [], All, codes}
+use Rattle.ds_ast.specs.declared.name.Name.{Name}
 use Rattle.ds_ast.specs.declared.ty.Scalar.{Scalar}
 use Rattle.ds_ast.specs.declared.ty.Scalar.TheVariants.{I64, Ptr}
 use Rattle.ds_ast.specs.declared.instr.Op.{Op}
@@ -43,11 +45,16 @@ IsOpInForm Unreachable = Unit {0}
 abbrev pub IsBlockInForm : Block → Type 0
 IsBlockInForm b = All (λ (i : Instr). IsOpInForm i.op) b.code
 
--- the function, where it is only declared, is print_i64
-abbrev pub IsDeclaredInForm : Function → Type 0
-IsDeclaredInForm f = f.blocks ≡ [] → IsCalled (codes "print_i64") f.name
+-- the external of this name can be called
+abbrev pub IsExternalInForm : Name → Type 0
+IsExternalInForm name =
+    IsCalled (codes "print_i64") name ⊎ IsCalled (codes "malloc") name ⊎ IsCalled (codes "free") name
 
--- the function is print_i64 or defined, and each of its instructions is of the form
+-- the function, where it is only declared, is print_i64, malloc or free
+abbrev pub IsDeclaredInForm : Function → Type 0
+IsDeclaredInForm f = f.blocks ≡ [] → IsExternalInForm f.name
+
+-- the function is one of these or defined, and each of its instructions is of the form
 abbrev pub IsFunctionInForm : Function → Type 0
 IsFunctionInForm f = IsDeclaredInForm f × All IsBlockInForm f.blocks
 

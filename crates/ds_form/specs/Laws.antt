@@ -9,4 +9,4 @@ use Rattle.ds_form.specs.Form.{IsInForm}
 -- All that a thread of a module of the form asks, where no store is noted, has a row of the step table, whatever the
 -- thread is told.
 abbrev pub FormsAskRows : Type 0
-FormsAskRows = (m : Module) (lim : Bounds) → IsInForm m → HasRows (program_of false lim m)
+FormsAskRows = (m : Module) (lim : Bounds) → IsInForm m → HasRows lim (program_of false lim m)

@@ -1,9 +1,9 @@
 //! Whether a module is of the form.
 
-ghost use Rattle.std.specs.Prelude.{◌≡◌, ◌↔◌, IsTrue, All, codes};
+ghost use Rattle.std.specs.Prelude.{◌↔◌, IsTrue, All};
 ghost use Rattle.ds_ast.specs.declared.instr.Instr.{Instr as instr};
-ghost use Rattle.ds_shape.specs.Externals.{IsCalled};
-ghost use Rattle.ds_form.specs.Form.{FillsWord, IsOpInForm, IsBlockInForm, IsFunctionInForm, IsInForm};
+ghost use Rattle.ds_form.specs.Form.{FillsWord, IsOpInForm, IsBlockInForm, IsExternalInForm};
+ghost use Rattle.ds_form.specs.Form.{IsFunctionInForm, IsInForm};
 
 use ds_ast::{Block, Function, Instr, Module, Name, Op, Scalar};
 
@@ -53,13 +53,18 @@ fn are_blocks_in_form(blocks: &[Block]) -> bool
     true
 }
 
-/// Whether a name is that of the external which prints.
-fn is_print(name: &Name) -> bool
-    ensures { IsTrue result ↔ IsCalled (codes "print_i64") name.now }
+/// Whether the external of a name can be called.
+fn is_external_in_form(name: &Name) -> bool
+    ensures { IsTrue result ↔ IsExternalInForm name.now }
 {
     match name {
         Name::Number(_) => false,
-        Name::Text(bytes) => bytes.as_slice() == b"print_i64".as_slice(),
+        Name::Text(bytes) => {
+            let bytes = bytes.as_slice();
+            bytes == b"print_i64".as_slice()
+                || bytes == b"malloc".as_slice()
+                || bytes == b"free".as_slice()
+        },
     }
 }
 
@@ -68,7 +73,7 @@ fn is_function_in_form(f: &Function) -> bool
     ensures { IsTrue result ↔ IsFunctionInForm f.now }
 {
     if f.blocks.is_empty() {
-        return is_print(&f.name);
+        return is_external_in_form(&f.name);
     }
     are_blocks_in_form(f.blocks.as_slice())
 }
@@ -85,8 +90,9 @@ fn are_functions_in_form(functions: &[Function]) -> bool
     true
 }
 
-/// Whether a module is of the form that this stage runs: each function that it only declares is `print_i64`, loads and
-/// stores are of an `i64` or a `ptr`, and there is no `atomicrmw`, no `cmpxchg` and no `extractvalue`.
+/// Whether a module is of the form that this stage runs: each function that it only declares is `print_i64`, `malloc`
+/// or `free`, loads and stores are of an `i64` or a `ptr`, and there is no `atomicrmw`, no `cmpxchg` and no
+/// `extractvalue`.
 pub fn is_in_form(module: &Module) -> bool
     ensures { IsTrue result ↔ IsInForm «module».now }
 {

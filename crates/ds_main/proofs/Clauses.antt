@@ -29,47 +29,35 @@ use Rattle.ds_main.specs.Ending.{ReadRose, WriteRose, IsReadOut, Writing, Call, 
 use Rattle.ds_main.specs.Ending.{Ends}
 use Rattle.ds_main.proofs.Endings.{by_ending}
 
--- a single word has no limits
-no_limits : (words : List (List ℕ)) (word : List ℕ) (lim : Bounds) → words ≡ word ∷ [] → limits_in words ≡ Some lim → ⊥
-no_limits words word lim one is =
-    let e : ◌≡◌ {A = Option Bounds} None (Some lim) = ap limits_in (sym one) ∙ is in absurd (cc e)
-
 -- words have one list of limits
 one_limits : (words : List (List ℕ)) (lim other : Bounds) → IsJob words (jobs.Replay lim)
     → IsJob words (jobs.Replay other) → lim ≡ other
-one_limits words lim other (inl a) (inl b) = a.1 ∙ sym b.1
-one_limits words lim other (inl a) (inr b) = absurd (no_limits words (codes "replay") other a.0 b)
-one_limits words lim other (inr a) (inl b) = absurd (no_limits words (codes "replay") lim b.0 a)
-one_limits words lim other (inr a) (inr b) =
+one_limits words lim other a b =
     let e : ◌≡◌ {A = Option Bounds} (Some lim) (Some other) = sym a ∙ b in cc e
 
 -- a job that runs nothing has one word, which is not `replay`
-not_replay : (words : List (List ℕ)) (word : List ℕ) (lim : Bounds) → (codes "replay" ≡ word → ⊥) → words ≡ word ∷ []
+not_check : (words : List (List ℕ)) (lim : Bounds) → words ≡ codes "check" ∷ [] → IsJob words (jobs.Replay lim) → ⊥
+not_check words lim one is =
+    let e : ◌≡◌ {A = Option Bounds} None (Some lim) = ap limits_in (sym one) ∙ is in absurd (cc e)
+
+not_instrument : (words : List (List ℕ)) (lim : Bounds) → words ≡ codes "instrument" ∷ []
     → IsJob words (jobs.Replay lim) → ⊥
-not_replay words word lim other one (inl a) =
-    let e : codes "replay" ∷ [] ≡ word ∷ [] = sym a.0 ∙ one in
-    let same : codes "replay" ≡ word = cc e in other same
-not_replay words word lim other one (inr a) = no_limits words word lim one a
-
-not_check : codes "replay" ≡ codes "check" → ⊥
-not_check e = absurd (cc e)
-
-not_instrument : codes "replay" ≡ codes "instrument" → ⊥
-not_instrument e = absurd (cc e)
+not_instrument words lim one is =
+    let e : ◌≡◌ {A = Option Bounds} None (Some lim) = ap limits_in (sym one) ∙ is in absurd (cc e)
 
 -- words are of one job
 one_job : (words : List (List ℕ)) (job other : Job) → IsJob words job → IsJob words other → job ≡ other
 one_job words (jobs.Replay lim) (jobs.Replay other) a b = ap jobs.Replay (one_limits words lim other a b)
 one_job words jobs.Check jobs.Check a b = refl
 one_job words jobs.Instrument jobs.Instrument a b = refl
-one_job words (jobs.Replay lim) jobs.Check a b = absurd (not_replay words (codes "check") lim not_check b a)
+one_job words (jobs.Replay lim) jobs.Check a b = absurd (not_check words lim b a)
 one_job words (jobs.Replay lim) jobs.Instrument a b =
-    absurd (not_replay words (codes "instrument") lim not_instrument b a)
-one_job words jobs.Check (jobs.Replay lim) a b = absurd (not_replay words (codes "check") lim not_check a b)
+    absurd (not_instrument words lim b a)
+one_job words jobs.Check (jobs.Replay lim) a b = absurd (not_check words lim a b)
 one_job words jobs.Check jobs.Instrument a b =
     let e : codes "check" ∷ [] ≡ codes "instrument" ∷ [] = sym a ∙ b in absurd (cc e)
 one_job words jobs.Instrument (jobs.Replay lim) a b =
-    absurd (not_replay words (codes "instrument") lim not_instrument a b)
+    absurd (not_instrument words lim a b)
 one_job words jobs.Instrument jobs.Check a b =
     let e : codes "instrument" ∷ [] ≡ codes "check" ∷ [] = sym a ∙ b in absurd (cc e)
 

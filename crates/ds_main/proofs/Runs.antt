@@ -35,8 +35,8 @@ has_legal_order program lim traces (Some order) legal = ∣ (legal.0, legal.2, l
 
 -- all that the code of a module of the form asks has a row
 pub code_asks_rows : FormsAskRows → (m : Module) (lim : Bounds) (code : CodeParts) → IsInForm m
-    → program_of lim code ≡ read_program lim m → HasRows (program_of lim code)
-code_asks_rows law m lim code form same = subst HasRows (sym same) (law m lim form)
+    → program_of lim code ≡ read_program lim m → HasRows lim (program_of lim code)
+code_asks_rows law m lim code form same = subst (HasRows lim) (sym same) (law m lim form)
 
 -- the image of an accepted module has at most 4,096 words
 pub few_words : WordsAreCounted → (m : Module) (code : CodeParts) → Accepted m → IsLowered m code
@@ -52,7 +52,8 @@ has_meaning : AcceptedMeans → (m : Module) → Accepted m → HasMeaning m
 has_meaning safe m accepted = λ noting lim thread function argument f answers at defined.
     safe m noting lim accepted thread function argument f answers at defined
 
-module _ (law : LegalRunsArePlain) (fuel : FuelIsExact) (m : Module) (means : HasMeaning m) (lim : Bounds) (range : IsInRange lim) (run : RunRecord)
+module _ (law : LegalRunsArePlain) (fuel : FuelIsExact) (m : Module) (means : HasMeaning m) (lim : Bounds)
+    (range : IsInRange lim) (run : RunRecord)
     (recorded : IsRecord (read_program lim m) lim run.stops run.traces)
     (order : IsSomeAnd run.order (IsScheduledOrder (read_program lim m) lim [] 0 run.traces))
     (alone : IsSomeAnd run.order (λ order. order ≡ replicate (length order) 0))

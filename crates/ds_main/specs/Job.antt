@@ -1,11 +1,13 @@
 -- The words of a job.
-use Rattle.std.specs.Prelude.{◌≡◌, ℕ, ◌⊎◌, ◌&&◌, nat_le, if◌then◌else◌, List, [], ◌∷◌, length, map, codes}
+use Rattle.std.specs.Prelude.{◌≡◌, ℕ, ◌&&◌, nat_le, if◌then◌else◌, List, [], ◌∷◌, length, map, codes}
 use Rattle.std.specs.Prelude.{Option, Some, None, String, string_bytes}
 use Rattle.std.specs.List.{list_all}
+use Rattle.std.specs.Option.{unwrap_or, option_map}
 use Rattle.std.specs.Str.{bytes_eq}
 use Rattle.ds_lex.specs.Bytes.{is_digit}
 use Rattle.ds_lex.specs.Number.{number_of}
 use Rattle.ds_map.specs.Bounds.{Bounds, default_limits}
+use Rattle.ds_main.specs.declared.job.Options as code
 use Rattle.ds_main.specs.declared.job.Job.{Job}
 use Rattle.ds_main.specs.declared.job.Job.TheVariants.{Replay, Check, Instrument}
 
@@ -17,26 +19,60 @@ texts words = map string_bytes words
 abbrev pub number_in : List ℕ → Option ℕ
 number_in word = if list_all is_digit word && nat_le (length word) 20 then number_of word else None
 
--- the limits of a run with so many units for each thread, from 1 to 2,000,000
-abbrev pub limits_with : Option ℕ → Option Bounds
-limits_with None = None
-limits_with (Some fuel) =
-    if nat_le 1 fuel && nat_le fuel 2000000 then Some (record default_limits { fuel = fuel }) else None
+-- the options of a run that were given
+pub record Options : Type 0 where
+  pub pages : Option ℕ
+  pub fuel : Option ℕ
 
--- the limits of a run whose words are `replay --fuel N`
+abbrev pub no_options : Options
+no_options = record { pages = None; fuel = None }
+
+-- the number of an option, where it was not given before
+abbrev pub once : (before number : Option ℕ) → Option ℕ
+once None number = number
+once (Some n) number = None
+
+-- with one more option, its name and its number; none where there is no such option, it was given before, or this is no
+-- number
+abbrev pub with_option : Options → (name number : List ℕ) → Option Options
+with_option options name number =
+    if bytes_eq name (codes "--pages")
+    then option_map (λ n. record options { pages = Some n }) (once options.pages (number_in number)) else
+    (if bytes_eq name (codes "--fuel")
+    then option_map (λ n. record options { fuel = Some n }) (once options.fuel (number_in number)) else None)
+
+abbrev pub if_options : (Options → Option Options) → Option Options → Option Options
+if_options go None = None
+if_options go (Some options) = go options
+
+-- with the options that these words give, each a name and its number, in any order
+abbrev pub options_from : Options → List (List ℕ) → Option Options
+options_from options [] = Some options
+options_from options (name ∷ []) = None
+options_from options (name ∷ number ∷ words) =
+    if_options (λ more. options_from more words) (with_option options name number)
+
+-- the limits of a run with these options: 1 to 4,096 pages, and 1 to 2,000,000 units for each thread
+abbrev pub limits_of : Options → Option Bounds
+limits_of options =
+    let pages = unwrap_or options.pages default_limits.pages in
+    let fuel = unwrap_or options.fuel default_limits.fuel in
+    if (nat_le 1 pages && nat_le pages 4096) && (nat_le 1 fuel && nat_le fuel 2000000)
+    then Some (record default_limits { pages = pages; fuel = fuel }) else None
+
+abbrev pub if_limits : Option Options → Option Bounds
+if_limits None = None
+if_limits (Some options) = limits_of options
+
+-- the limits of a run whose words are `replay` and then options
 abbrev pub limits_in : List (List ℕ) → Option Bounds
 limits_in [] = None
-limits_in (command ∷ []) = None
-limits_in (command ∷ name ∷ []) = None
-limits_in (command ∷ name ∷ number ∷ []) =
-    if bytes_eq command (codes "replay") && bytes_eq name (codes "--fuel") then limits_with (number_in number)
-    else None
-limits_in (command ∷ name ∷ number ∷ more ∷ words) = None
+limits_in (command ∷ words) =
+    if bytes_eq command (codes "replay") then if_limits (options_from no_options words) else None
 
 -- these are the words of the job
 abbrev pub IsJob : List (List ℕ) → Job → Type 0
-IsJob words (Replay lim) =
-    ((words ≡ codes "replay" ∷ []) × (lim ≡ default_limits)) ⊎ (limits_in words ≡ Some lim)
+IsJob words (Replay lim) = limits_in words ≡ Some lim
 IsJob words Check = words ≡ codes "check" ∷ []
 IsJob words Instrument = words ≡ codes "instrument" ∷ []
 
@@ -51,3 +87,9 @@ abbrev pub IsReplay : Job → Type 0
 IsReplay (Replay lim) = Unit {0}
 IsReplay Check = ⊥
 IsReplay Instrument = ⊥
+
+-- HELPERS: no clause of a public call speaks of them
+
+-- the options as code has them
+abbrev pub options_with : code.Options → Options
+options_with options = record { pages = options.pages; fuel = options.fuel }

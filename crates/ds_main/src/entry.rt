@@ -65,8 +65,8 @@ fn answer<S: Source, K: Sink>(
 /// is accepted: it keeps all rules.
 /// `check` writes that to the sink, with how many functions the module defines and how many instructions they have.
 /// `instrument` writes the canonical text of the module. `replay` runs it, where it has the form that this stage runs,
-/// with at most so many units as `--fuel` says, and writes the report of the run. No thread is started, and no pace is
-/// called.
+/// with a heap of so many pages as `--pages` says, and at most so many units as `--fuel` says, and writes the report of
+/// the run. No thread is started, and no pace is called.
 ///
 /// The status is 0 where the job was done; 9, 7, 3 or 8 where it was and main ran out of fuel, a thread met a full
 /// table, a thread trapped, or another thread ran out of fuel, of which the first decides; 2 where no job has these

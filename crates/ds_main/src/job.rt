@@ -2,8 +2,10 @@
 
 ghost use Rattle.std.specs.Prelude.{◌≡◌, ◌∷◌, [], IfOk, IsErrOf, IsTrue, ◌↔◌};
 ghost use Rattle.std.specs.List.{list_all};
+ghost use Rattle.std.specs.Option.{option_map};
 ghost use Rattle.ds_lex.specs.Bytes.{is_digit};
-ghost use Rattle.ds_main.specs.Job.{texts, number_in, limits_with, limits_in, IsJob, NoJob};
+ghost use Rattle.ds_main.specs.Job.{texts, number_in, once, with_option, no_options, options_from, limits_of, limits_in};
+ghost use Rattle.ds_main.specs.Job.{options_with, IsJob, NoJob};
 
 use ds_lex::number_of;
 use ds_map::Limits;
@@ -31,8 +33,18 @@ pub enum ArgsFault {
 /// The most decimal digits that a number may have.
 const MOST_DIGITS: usize = 20;
 
+/// The most pages that the heap may have.
+const MOST_PAGES: u64 = 4096;
+
 /// The most units that a thread may be given.
 const MOST_FUEL: u64 = 2_000_000;
+
+/// The options of a run that were given.
+#[derive(Clone, Copy)]
+struct Options {
+    pages: Option<u64>,
+    fuel: Option<u64>,
+}
 
 /// Whether all bytes are decimal digits.
 fn are_digits(word: &[u8]) -> bool
@@ -52,33 +64,70 @@ fn number_in(word: &[u8]) -> Option<u64>
     }
 }
 
-/// The limits of a run with so many units for each thread, from 1 to 2,000,000.
-fn limits_with(fuel: Option<u64>) -> Option<Limits>
-    ensures { result ≡ limits_with fuel }
+/// The number of an option, where it was not given before.
+fn once(before: Option<u64>, number: Option<u64>) -> Option<u64>
+    ensures { result ≡ once before number }
 {
-    let fuel = fuel?;
-    if fuel > MOST_FUEL {
-        return None;
+    match before {
+        None => number,
+        Some(_) => None,
     }
-    let limits = Limits::default_limits();
-    Limits::new(limits.pages(), fuel as u32, limits.logs(), limits.hash())
 }
 
-/// The limits of a run whose words are `replay --fuel N`.
+/// With one more option.
+fn with_option(options: Options, name: &[u8], number: &[u8]) -> Option<Options>
+    ensures { option_map options_with result ≡ with_option (options_with options) name.now number.now }
+{
+    if name == b"--pages".as_slice() {
+        let pages = Some(once(options.pages, number_in(number))?);
+        return Some(Options { pages, ..options });
+    }
+    if name == b"--fuel".as_slice() {
+        let fuel = Some(once(options.fuel, number_in(number))?);
+        return Some(Options { fuel, ..options });
+    }
+    None
+}
+
+/// The options that words give, each a name and its number.
+fn options_in(words: &[String]) -> Option<Options>
+    ensures { option_map options_with result ≡ options_from no_options (texts words.now) }
+{
+    let mut options = Options {
+        pages: None,
+        fuel: None,
+    };
+    let mut rest = words;
+    'pairs: while let Some((name, behind)) = rest.split_first() {
+        let (number, more) = behind.split_first()?;
+        options = with_option(options, name.as_bytes(), number.as_bytes())?;
+        rest = more;
+    }
+    Some(options)
+}
+
+/// The limits of a run with these options.
+fn limits_of(options: Options) -> Option<Limits>
+    ensures { result ≡ limits_of (options_with options) }
+{
+    let limits = Limits::default_limits();
+    let pages = options.pages.unwrap_or(u64::from(limits.pages()));
+    let fuel = options.fuel.unwrap_or(u64::from(limits.fuel()));
+    if pages > MOST_PAGES || fuel > MOST_FUEL {
+        return None;
+    }
+    Limits::new(pages as u32, fuel as u32, limits.logs(), limits.hash())
+}
+
+/// The limits of a run whose words are `replay` and then options.
 fn limits_in(words: &[String]) -> Option<Limits>
     ensures { result ≡ limits_in (texts words.now) }
 {
-    match words {
-        [command, name, number] => {
-            if command.as_bytes() == b"replay".as_slice()
-                && name.as_bytes() == b"--fuel".as_slice()
-            {
-                limits_with(number_in(number.as_bytes()))
-            } else {
-                None
-            }
-        }
-        _ => None,
+    let (command, behind) = words.split_first()?;
+    if command.as_bytes() == b"replay".as_slice() {
+        limits_of(options_in(behind)?)
+    } else {
+        None
     }
 }
 
@@ -92,8 +141,9 @@ fn is_only_word(words: &[String], word: &[u8]) -> bool
     }
 }
 
-/// The job that has these words, which stand behind the program's name: `replay`, `check` or `instrument` alone, or
-/// `replay --fuel N`. N is 1 to 20 decimal digits without a sign, whose number lies from 1 to 2,000,000.
+/// The job that has these words, which stand behind the program's name: `check` or `instrument` alone, or `replay` and
+/// then options, `--pages N` with N from 1 to 4,096 and `--fuel N` with N from 1 to 2,000,000, each at most once, in any
+/// order. N is 1 to 20 decimal digits without a sign.
 ///
 /// # Errors
 ///
@@ -102,11 +152,6 @@ pub fn read_words(words: &[String]) -> Result<Job, ArgsFault>
     ensures job { IfOk result (λ job. IsJob (texts words.now) job) }
     ensures usage { IsErrOf result ArgsFault.Usage ↔ NoJob (texts words.now) }
 {
-    if is_only_word(words, b"replay") {
-        return Ok(Job::Replay {
-            limits: Limits::default_limits(),
-        });
-    }
     if is_only_word(words, b"check") {
         return Ok(Job::Check);
     }

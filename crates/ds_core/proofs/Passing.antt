@@ -1,0 +1,78 @@
+-- The events of a malloc and of a free give out no thread and end none.
+use Rattle.std.proofs.Common.{◌≡◌, ℕ, ◌==◌, false, refl, ap}
+use Rattle.std.proofs.lemmas.Bool.{cond_both}
+use Rattle.ds_map.specs.Bounds.{Bounds}
+use Rattle.ds_step.specs.declared.Event.{Event}
+use Rattle.ds_plain.specs.declared.Search.{Search}
+use Rattle.ds_plain.specs.declared.AllocAt.{AllocAt}
+use Rattle.ds_plain.specs.declared.AllocAt.TheVariants as allocs
+use Rattle.ds_plain.specs.declared.FreeAt.{FreeAt}
+use Rattle.ds_plain.specs.declared.FreeAt.TheVariants as frees
+use Rattle.ds_plain.specs.Searching.{PageSeen, Unsized, Wanted, Other, NoPageWord, page_seen, page_loaded, page_swapped}
+use Rattle.ds_plain.specs.Searching.{BlockSeen, Unused, Used, NoBlockWord, block_seen, block_loaded, block_swapped}
+use Rattle.ds_plain.specs.Searching.{alloc_event}
+use Rattle.ds_plain.specs.Freeing.{StartSeen, StartOf, NoStart, start_seen, start_loaded, LifeSeen, LiveIn, NotLive}
+use Rattle.ds_plain.specs.Freeing.{life_seen, life_loaded, life_swapped, free_event}
+use Rattle.ds_plain.specs.Freeing as freeing
+use Rattle.ds_plain.specs.Turns.{Neither, passing_of, ends_thread}
+
+-- the event gives out no thread and ends none
+abbrev Passes : Event → Type 0
+Passes event = passing_of event ≡ Neither
+
+module _ (lim : Bounds) where
+  load_page_passes : (search : Search) (seen : PageSeen) → Passes (page_loaded lim search seen)
+  load_page_passes search Unsized = refl
+  load_page_passes search Wanted = refl
+  load_page_passes search Other = refl
+  load_page_passes search NoPageWord = refl
+
+  swap_page_passes : (search : Search) (seen : PageSeen) → Passes (page_swapped lim search seen)
+  swap_page_passes search Unsized = refl
+  swap_page_passes search Wanted = refl
+  swap_page_passes search Other = refl
+  swap_page_passes search NoPageWord = refl
+
+  load_block_passes : (search : Search) (index : ℕ) (seen : BlockSeen) → Passes (block_loaded lim search index seen)
+  load_block_passes search index (Unused life) = refl
+  load_block_passes search index Used = refl
+  load_block_passes search index NoBlockWord = refl
+
+  swap_block_passes : (search : Search) (index life : ℕ) (seen : BlockSeen)
+      → Passes (block_swapped lim search index life seen)
+  swap_block_passes search index life (Unused seen) = cond_both (seen == life) _ _ Passes (λ e. refl) (λ e. refl)
+  swap_block_passes search index life Used = refl
+  swap_block_passes search index life NoBlockWord = refl
+
+  pub malloc_passes : (at : AllocAt) (old : ℕ) → Passes (alloc_event lim at old)
+  malloc_passes (allocs.LoadPage search) old = load_page_passes search (page_seen search.class old)
+  malloc_passes (allocs.SwapPage search) old = swap_page_passes search (page_seen search.class old)
+  malloc_passes (allocs.LoadBlock search index) old = load_block_passes search index (block_seen old)
+  malloc_passes (allocs.SwapBlock search index life) old = swap_block_passes search index life (block_seen old)
+
+  pub malloc_goes_on : (at : AllocAt) (old : ℕ) → ends_thread (passing_of (alloc_event lim at old)) ≡ false
+  malloc_goes_on at old = ap ends_thread (malloc_passes at old)
+
+load_start_passes : (seen : StartSeen) → Passes (start_loaded seen)
+load_start_passes (StartOf place) = refl
+load_start_passes NoStart = refl
+load_start_passes freeing.NoPageWord = refl
+
+load_life_passes : (seen : LifeSeen) → Passes (life_loaded seen)
+load_life_passes (LiveIn life) = refl
+load_life_passes NotLive = refl
+load_life_passes freeing.NoBlockWord = refl
+
+swap_life_passes : (place life : ℕ) (seen : LifeSeen) → Passes (life_swapped place life seen)
+swap_life_passes place life (LiveIn seen) = cond_both (seen == life) _ _ Passes (λ e. refl) (λ e. refl)
+swap_life_passes place life NotLive = refl
+swap_life_passes place life freeing.NoBlockWord = refl
+
+pub free_passes : (at : FreeAt) (old : ℕ) → Passes (free_event at old)
+free_passes (frees.LoadPage address) old = load_start_passes (start_seen address old)
+free_passes (frees.LoadBlock address place) old = load_life_passes (life_seen old)
+free_passes (frees.SwapBlock address place life) old = swap_life_passes place life (life_seen old)
+free_passes (frees.StoreFree place life) old = refl
+
+pub free_goes_on : (at : FreeAt) (old : ℕ) → ends_thread (passing_of (free_event at old)) ≡ false
+free_goes_on at old = ap ends_thread (free_passes at old)
