@@ -2,7 +2,8 @@
 # Times `dangsan replay` on programs of examples/programs/ at sizes that need nearly 2,000,000 units, with a fuel of 250,000, 500,000, 1,000,000 and
 # 2,000,000 units, beside the interpreter of LLVM where lli is at hand. Prints time (the best of three runs), the peak of memory, and units a second,
 # from which the time of a run of two units is taken off; a unit is an instruction, load, store or print. Doubling the fuel should at most take 2.2 times
-# the time, and the most 2 s. The script fails where a status or an output is another one. It needs clang-16, which makes the modules.
+# the time, and the most 2 s. The script fails where a status or an output is another one. It needs clang-16, which makes the modules. Without
+# --jit-kind=mcjit lli takes no notice of --force-interpreter: it compiles.
 . "$(dirname "$0")/measure.sh"
 command -v clang-16 >/dev/null || {
     echo "replay.sh: clang-16 is missing" >&2
@@ -56,8 +57,8 @@ program() {
     replayed "$1" "$work/$1.ll" 0 "$2" 2000000
     [ -n "$lli" ] || return 0
     rm -f "$work/lli_start"
-    python3 "$work/time.py" "lli, nothing" /dev/null "$work/wanted" 0 2 "$work/lli_start" "$lli" --force-interpreter --load="$work/print.so" "$work/nothing.ll" >"$work/line" || failed=1
-    python3 "$work/time.py" "$1, lli" /dev/null "$work/wanted" 0 "$2" "$work/lli_start" "$lli" --force-interpreter --load="$work/print.so" "$work/$1.ll" || failed=1
+    python3 "$work/time.py" "lli, nothing" /dev/null "$work/wanted" 0 2 "$work/lli_start" "$lli" --force-interpreter --jit-kind=mcjit --load="$work/print.so" "$work/nothing.ll" >"$work/line" || failed=1
+    python3 "$work/time.py" "$1, lli" /dev/null "$work/wanted" 0 "$2" "$work/lli_start" "$lli" --force-interpreter --jit-kind=mcjit --load="$work/print.so" "$work/$1.ll" || failed=1
     head -n -1 "$work/output" | cmp - "$work/wanted" || failed=1
 }
 

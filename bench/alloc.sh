@@ -1,0 +1,170 @@
+#!/usr/bin/env bash
+# Times `dangsan replay` on pairs of malloc and free: of one size; of all 15 sizes in turn, in 15 pages; and in a heap
+# that is full but for one block, which each malloc finds last of all, in one page of 4 blocks and in 8 pages of 256.
+# Prints time (the best of three runs), the peak of memory, units and units a second, from which the time of a run of
+# two units is taken off, and how many times as long it took as half as many pairs, which should be at most 2.2. A unit
+# is an instruction or a step. The script reckons the units of each run from the rules, and fails where the program
+# does not end with them, or does with one less. It says, and does not fail, where twice as many pairs took longer.
+. "$(dirname "$0")/measure.sh"
+
+cat >"$work/alloc.py" <<'PYTHON'
+"""usage: alloc.py PROGRAM FOLDER"""
+import os, resource, subprocess, sys, time
+
+program, folder = sys.argv[1:]
+SIZES = [2, 4, 6, 8, 12, 16, 24, 32, 48, 64, 96, 128, 192, 256, 512]
+LARGEST = [8 * words - 1 for words in SIZES]
+DECLARED = 'declare ptr @malloc(i64)\ndeclare void @free(ptr)\n'
+
+
+class Heap:
+    """The steps of mallocs and frees, by the rules: how many words each looks at or changes."""
+
+    def __init__(self, pages):
+        self.pages, self.steps = pages, 0
+        self.classes, self.live, self.cursors = {}, set(), [(0, 0)] * len(SIZES)
+
+    def places(self, size):
+        """The pages at which it looks, each with the blocks there, in order."""
+        blocks = 512 // SIZES[size]
+        page, first = self.cursors[size]
+        yield page, range(first, blocks)
+        for behind in range(1, self.pages):
+            yield (page + behind) % self.pages, range(blocks)
+        if first > 0:
+            yield page, range(first)
+
+    def malloc(self, size):
+        for page, blocks in self.places(size):
+            self.steps += 1
+            if page not in self.classes:
+                self.classes[page] = size
+                self.steps += 1
+            if self.classes[page] != size:
+                continue
+            for block in blocks:
+                self.steps += 1
+                if (page, block) not in self.live:
+                    self.steps += 1
+                    self.live.add((page, block))
+                    behind = block + 1 < 512 // SIZES[size]
+                    self.cursors[size] = (page, block + 1) if behind else ((page + 1) % self.pages, 0)
+                    return page, block
+        return None
+
+    def free(self, block):
+        self.steps += 4
+        self.live.remove(block)
+
+
+def loop(pairs, before, inside, bytes):
+    """A module with some code, and then a loop that mallocs and frees."""
+    return f"""define void @main() {{
+entry:
+{before}  br label %next
+next:
+  %i = phi i64 [ 0, %entry ], [ %j, %next ]
+{inside}  %p = call ptr @malloc(i64 {bytes})
+  call void @free(ptr %p)
+  %j = add i64 %i, 1
+  %c = icmp ult i64 %j, {pairs}
+  br i1 %c, label %next, label %done
+done:
+  ret void
+}}
+"""
+
+
+def one_size(pairs):
+    """Pairs of the least size: its module, its pages, its units."""
+    heap = Heap(256)
+    for _ in range(pairs):
+        heap.free(heap.malloc(0))
+    return loop(pairs, '', '', 15) + DECLARED, 256, 3 + 6 * pairs + heap.steps
+
+
+def all_sizes(pairs):
+    """Pairs of each size in turn, in as many pages."""
+    heap = Heap(15)
+    for pair in range(pairs):
+        heap.free(heap.malloc(pair % 15))
+    numbers = ', '.join(f'i64 {bytes}' for bytes in LARGEST)
+    inside = '  %k = urem i64 %i, 15\n  %s = getelementptr i64, ptr @sizes, i64 %k\n  %n = load i64, ptr %s\n'
+    table = f'@sizes = global [15 x i64] [ {numbers} ]\n'
+    return table + loop(pairs, '', inside, '%n') + DECLARED, 15, 3 + 10 * pairs + heap.steps
+
+
+FILL = """define ptr @fill() {
+entry:
+  %f = call ptr @malloc(i64 BYTES)
+  br label %next
+next:
+  %p = call ptr @malloc(i64 BYTES)
+  %z = icmp eq ptr %p, null
+  br i1 %z, label %done, label %next
+done:
+  call void @free(ptr %f)
+  ret ptr %f
+}
+"""
+
+
+def full(pairs, size, pages):
+    """Pairs in a heap that is filled but for its first block."""
+    heap = Heap(pages)
+    first, taken = heap.malloc(size), 1
+    while heap.malloc(size) is not None:
+        taken += 1
+    heap.free(first)
+    heap.free(heap.malloc(size))
+    once = heap.steps
+    heap.free(heap.malloc(size))
+    each = heap.steps - once
+    steps = once + (pairs - 1) * each
+    text = FILL.replace('BYTES', str(LARGEST[size]))
+    module = text + loop(pairs, '  call ptr @fill()\n', '', LARGEST[size]) + DECLARED
+    # once: to begin, the call, two branches, the first malloc, the free and two returns; three for each further malloc
+    return module, pages, 8 + 3 * taken + 6 * pairs + steps
+
+
+def timed(module, pages, fuel, status, runs=3):
+    """The seconds of the best of some runs."""
+    path = os.path.join(folder, 'input')
+    open(path, 'w').write(module)
+    words = [program, 'replay', '--pages', str(pages), '--fuel', str(fuel)]
+    best = None
+    for _ in range(runs):
+        with open(path, 'rb') as given:
+            began = time.perf_counter()
+            ended = subprocess.run(words, stdin=given, stdout=subprocess.DEVNULL).returncode
+            took = time.perf_counter() - began
+        best = took if best is None else min(best, took)
+        if ended != status:
+            print(f'alloc.sh: status {ended} in place of {status} with {fuel} units', file=sys.stderr)
+            sys.exit(1)
+    return best
+
+
+def bench(label, made, least):
+    """Runs a program with so many pairs, and three times twice as many."""
+    before = None
+    for pairs in (least, 2 * least, 4 * least, 8 * least):
+        module, pages, units = made(pairs)
+        start = timed('define void @main() { ret void }\n', pages, 2, 0)
+        net = timed(module, pages, units, 0) - start
+        timed(module, pages, units - 1, 9, 1)
+        rate = f'{units / net:12,.0f}' if net > 0.001 else f'{"-":>12}'
+        times = f'{net / before:6.2f} times' if before is not None and before > 0.001 else ''
+        late = ', more than 2.2' if times and net > 2.2 * before else ''
+        peak = resource.getrusage(resource.RUSAGE_CHILDREN).ru_maxrss / 1024
+        print(f'{label:<26} {pairs:>7,} pairs {units:>10,} units {net:7.3f} s {peak:7.1f} MB'
+              f' {rate} units a second {times}{late}')
+        before = net
+
+
+bench('one size', one_size, 10000)
+bench('15 sizes in turn', all_sizes, 10000)
+bench('one block of 4 is free', lambda pairs: full(pairs, 11, 1), 10000)
+bench('one block of 2,048 is free', lambda pairs: full(pairs, 0, 8), 100)
+PYTHON
+python3 "$work/alloc.py" "$top/crates/dangsan/out/dangsan" "$work"
