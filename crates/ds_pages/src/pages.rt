@@ -93,19 +93,21 @@ pub fn starts_at(address: u64, page_word: u64) -> Option<(u32, u32)>
 }
 
 /// The address at which the block of a place starts, in a page of this word.
+///
+/// Also for a place that is that of no block: as if the page's blocks went on behind its last.
 pub fn start_of(place: u32, page_word: u64) -> u64
-    requires place { place < 2 ^ 20 }
     requires some_class { 1 ≤ page_word }
     requires page_word { page_word ≤ 15 }
-    requires block { index_of place < class_blocks (page_word - 1) }
     ensures exact { result ≡ block_start place (page_word - 1) }
     ensures low { 0x1000000 ≤ result }
-    ensures high { result < 0x2000000 }
     ensures aligned { result % 16 ≡ 0 }
-    ensures page { page_at result ≡ page_of place }
-    ensures whole { result + 8 * class_words (page_word - 1) ≤ page_start (page_of place) + 4096 }
-    ensures held { place_in (page_at result) ((result - 0x1000000) % 4096) (class_in page_word) ≡ Some place }
-    ensures started { block_at result page_word ≡ Some place }
+    ensures high { place < 2 ^ 20 → index_of place < class_blocks (page_word - 1) → result < 0x2000000 }
+    ensures page { index_of place < class_blocks (page_word - 1) → page_at result ≡ page_of place }
+    ensures whole { index_of place < class_blocks (page_word - 1)
+        → result + 8 * class_words (page_word - 1) ≤ page_start (page_of place) + 4096 }
+    ensures held { index_of place < class_blocks (page_word - 1)
+        → place_in (page_at result) ((result - 0x1000000) % 4096) (class_in page_word) ≡ Some place }
+    ensures started { index_of place < class_blocks (page_word - 1) → block_at result page_word ≡ Some place }
 {
     let page = u64::from(place / PAGE_PLACES);
     let index = u64::from(place % PAGE_PLACES);

@@ -62,7 +62,7 @@ pub data AllocNext : Type 0 where
   Looks : AllocAt → AllocNext
   -- it has taken a block
   Takes : (class place life : ℕ) → AllocNext
-  -- it has seen that there is none
+  -- it has taken none: it saw each place unavailable, one at one step and another at another
   TakesNone : AllocNext
 
 -- it is through with its page

@@ -136,7 +136,8 @@ pub enum AccessAt {
 
 /// How far a `malloc` has come through the places of its size class. It looks at the pages one after another, from the
 /// page of its first place on and round; in that one it begins at the first place. Where that is not the first of its
-/// page, it looks at this page once more in the end, at the places before the first one.
+/// page, it looks at this page once more in the end, at the places before the first one, unless it saw there that the
+/// page has another class.
 #[derive(Clone, Copy, Debug, PartialEq, Eq)]
 pub struct Search {
     /// The size class that it wants, below 15.
@@ -145,7 +146,7 @@ pub struct Search {
     pub first: u32,
     /// The number of pages that it has looked at.
     pub passed: u32,
-    /// Whether it still has to look at the page of its first place once more.
+    /// Whether it looks at the page of its first place once more in the end, as far as it knows.
     pub again: bool,
 }
 
