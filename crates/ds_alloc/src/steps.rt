@@ -10,8 +10,8 @@ ghost use Rattle.ds_plain.specs.Searching.{behind_page, behind_other_page, behin
 ghost use Rattle.ds_plain.specs.Searching.{page_seen, page_loaded, page_swapped, behind_page_load, behind_page_swap};
 ghost use Rattle.ds_plain.specs.Searching.{block_seen, block_loaded, block_swapped, taken};
 ghost use Rattle.ds_plain.specs.Searching.{behind_block_load, behind_block_swap};
-ghost use Rattle.ds_plain.specs.Searching.{alloc_op, alloc_row, alloc_event, alloc_next, swap_of};
-ghost use Rattle.ds_plain.specs.Table.{load_of};
+ghost use Rattle.ds_plain.specs.Operations.{load_of, swap_of};
+ghost use Rattle.ds_plain.specs.Searching.{alloc_op, alloc_row, alloc_event, alloc_next};
 ghost use Rattle.ds_plain.specs.Reached.{IsSearch, IsLooked, IsAllocAt};
 ghost use Rattle.ds_alloc.specs.Walks.{next_in};
 

@@ -8,12 +8,10 @@ use Rattle.ds_plain.specs.declared.Stop.{Stop}
 use Rattle.ds_plain.specs.declared.Stop.TheVariants.{Idle, Running, Returned, Trap, Full, Fuel}
 use Rattle.ds_plain.specs.declared.Request.{Request}
 use Rattle.ds_plain.specs.declared.Request.TheVariants as requests
-use Rattle.ds_plain.specs.declared.AccessAt.TheVariants.{StoreWord}
 use Rattle.ds_plain.specs.declared.FreeAt.TheVariants as frees
 use Rattle.ds_plain.specs.declared.Position.{Position}
 use Rattle.ds_plain.specs.declared.Position.TheVariants.{Start, Access, Malloc, Free, DrawPrint, StoreEnded, Over}
 use Rattle.ds_plain.specs.declared.Position.TheVariants.{NoRow}
-use Rattle.ds_plain.specs.Parts.{is_whole}
 use Rattle.ds_plain.specs.Behaviour.{Asked, Asks, Silent, Behaviour}
 use Rattle.ds_plain.specs.Freeing.{is_freeable}
 use Rattle.ds_plain.specs.Table.{end_by, looking_for, position_of}
@@ -82,8 +80,7 @@ looking_asked cursors (Some class) = refl
 asked_for : (lim : Bounds) (cursors : List ℕ) (request : Request)
     → MayAsk (step_cost request) (position_of lim cursors request)
 asked_for lim cursors (requests.Load access) = refl
-asked_for lim cursors (requests.Store access value) =
-    of_test (MayAsk 1) (is_whole access) (Access (StoreWord access.loc value)) NoRow (λ e. refl) (λ e. refl)
+asked_for lim cursors (requests.Store access value) = refl
 asked_for lim cursors (requests.Rmw access op value) = refl
 asked_for lim cursors (requests.Cas access expected new) = refl
 asked_for lim cursors (requests.Malloc bytes) = looking_asked cursors (class_of bytes)

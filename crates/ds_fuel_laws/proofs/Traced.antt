@@ -6,17 +6,17 @@ use Rattle.ds_map.specs.Blocks.{block_start}
 use Rattle.ds_step.specs.declared.Step.{Step}
 use Rattle.ds_plain.specs.declared.Stop.{Stop}
 use Rattle.ds_plain.specs.declared.StartAt.TheVariants.{LoadStart}
-use Rattle.ds_plain.specs.declared.AccessAt.{AccessAt}
-use Rattle.ds_plain.specs.declared.AccessAt.TheVariants.{LoadWord, StoreWord}
 use Rattle.ds_plain.specs.declared.Position.{Position}
 use Rattle.ds_plain.specs.declared.Position.TheVariants.{Start, Access, Malloc, Free, DrawPrint, StoreEnded, Over}
 use Rattle.ds_plain.specs.declared.Position.TheVariants.{NoRow}
 use Rattle.ds_plain.specs.Behaviour.{told, place_in_text, silent, Program}
 use Rattle.ds_plain.specs.Plain.{trap_stop}
+use Rattle.ds_plain.specs.Accessing.{AccessNext, AccessesOn, Tells, access_next}
 use Rattle.ds_plain.specs.Searching.{AllocNext, Looks, Takes, TakesNone, place_behind, alloc_next}
 use Rattle.ds_plain.specs.Freeing.{FreeNext, FreesOn, Freed, FailsFree, free_next}
 use Rattle.ds_plain.specs.Table.{begins, is_over}
-use Rattle.ds_plain.specs.Thread.{Thread, standing, going_on, first_thread, moved_from, moved_from_malloc, trap_kind}
+use Rattle.ds_plain.specs.Thread.{Thread, standing, going_on, first_thread, moved_from, moved_from_access}
+use Rattle.ds_plain.specs.Thread.{moved_from_malloc, trap_kind}
 use Rattle.ds_plain.specs.Thread.{moved_from_free, freed_address, first_cursors, Follows, thread_after, stop_at}
 use Rattle.ds_plain.specs.Thread.{stop_of}
 use Rattle.ds_plain.specs.Explained.{HasEnded}
@@ -62,11 +62,10 @@ module _ (program : Program) (lim : Bounds) (t : ℕ) where
       (going_on lim cursors (a.units + 1) (told a.rest answer))
   told_keeps a cursors answer le = going_keeps lim cursors (a.units + 1) (told a.rest answer) le
 
-  access_keeps : (a : Thread) (at : AccessAt) (old : ℕ) → a.units + 1 ≤ lim.fuel
-      → IsKept lim (record { paid = a.units + 1; next = next_from_access a.rest at old })
-      (moved_from program lim t a (Access at) old)
-  access_keeps a (LoadWord loc) old le = told_keeps a a.cursors old le
-  access_keeps a (StoreWord loc value) old le = told_keeps a a.cursors 0 le
+  access_keeps : (a : Thread) (next : AccessNext) → a.units + 1 ≤ lim.fuel
+      → IsKept lim (record { paid = a.units + 1; next = next_from_access a.rest next }) (moved_from_access lim a next)
+  access_keeps a (AccessesOn at) le = stepping_keeps lim a.cursors (a.units + 1) a.rest a.began (Access at) refl le
+  access_keeps a (Tells answer) le = told_keeps a a.cursors answer le
 
   malloc_keeps : (a : Thread) (next : AllocNext) → a.units + 1 ≤ lim.fuel
       → IsKept lim (record { paid = a.units + 1; next = next_from_malloc a.rest next }) (moved_from_malloc lim a next)
@@ -92,8 +91,9 @@ module _ (program : Program) (lim : Bounds) (t : ℕ) where
       paying lim account a.units (next_from_start program t LoadStart old)
       (moved_from program lim t a (Start LoadStart) old) due (start_keeps a old (one_more lim account a.units due))
   step_keeps a (Access at) old account due goes =
-      paying lim account a.units (next_from_access a.rest at old) (moved_from program lim t a (Access at) old) due
-      (access_keeps a at old (one_more lim account a.units due))
+      let next : AccessNext = access_next at old in
+      paying lim account a.units (next_from_access a.rest next) (moved_from_access lim a next) due
+      (access_keeps a next (one_more lim account a.units due))
   step_keeps a (Malloc at) old account due goes =
       let next : AllocNext = alloc_next lim at old in
       paying lim account a.units (next_from_malloc a.rest next) (moved_from_malloc lim a next) due

@@ -10,12 +10,11 @@ use Rattle.ds_plain.specs.declared.Request.{Request}
 use Rattle.ds_plain.specs.declared.Request.TheVariants as requests
 use Rattle.ds_plain.specs.declared.StartAt.{StartAt}
 use Rattle.ds_plain.specs.declared.StartAt.TheVariants.{LoadStart}
-use Rattle.ds_plain.specs.declared.AccessAt.{AccessAt}
-use Rattle.ds_plain.specs.declared.AccessAt.TheVariants.{LoadWord, StoreWord}
 use Rattle.ds_plain.specs.declared.Position.{Position}
 use Rattle.ds_plain.specs.declared.Position.TheVariants.{Start, Access, Malloc, Free, DrawPrint, StoreEnded, Over}
 use Rattle.ds_plain.specs.declared.Position.TheVariants.{NoRow}
 use Rattle.ds_plain.specs.Behaviour.{Asked, Asks, Silent, Behaviour, told, Program}
+use Rattle.ds_plain.specs.Accessing.{AccessNext, AccessesOn, Tells, access_next}
 use Rattle.ds_plain.specs.Searching.{AllocNext, Looks, Takes, TakesNone, alloc_next}
 use Rattle.ds_plain.specs.Freeing.{FreeNext, FreesOn, Freed, FailsFree, free_next}
 use Rattle.ds_plain.specs.Table.{begins}
@@ -84,9 +83,9 @@ abbrev pub next_from_start : Program → (t : ℕ) → StartAt → (old : ℕ) �
 next_from_start program t LoadStart old =
     if begins t old then ComesTo (program.behaves t program.main 0 []) else StepsOn
 
-abbrev pub next_from_access : Behaviour → AccessAt → (old : ℕ) → Next
-next_from_access rest (LoadWord loc) old = once_told rest old
-next_from_access rest (StoreWord loc value) old = once_told rest 0
+abbrev pub next_from_access : Behaviour → AccessNext → Next
+next_from_access rest (AccessesOn at) = StepsOn
+next_from_access rest (Tells answer) = once_told rest answer
 
 abbrev pub next_from_malloc : Behaviour → AllocNext → Next
 next_from_malloc rest (Looks at) = StepsOn
@@ -116,7 +115,7 @@ paid_for account next = record { paid = and_paid account.paid (price_of account.
 -- behind the step at a position, by its answer; behind the last one nothing comes that was not there before
 abbrev pub account_from : Program → Bounds → (t : ℕ) → Thread → Position → (old : ℕ) → Account → Account
 account_from program lim t a (Start at) old account = paid_for account (next_from_start program t at old)
-account_from program lim t a (Access at) old account = paid_for account (next_from_access a.rest at old)
+account_from program lim t a (Access at) old account = paid_for account (next_from_access a.rest (access_next at old))
 account_from program lim t a (Malloc at) old account =
     paid_for account (next_from_malloc a.rest (alloc_next lim at old))
 account_from program lim t a (Free at) old account = paid_for account (next_from_free a.rest (free_next at old))

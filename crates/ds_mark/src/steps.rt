@@ -10,8 +10,7 @@ ghost use Rattle.ds_plain.specs.Freeing.{start_seen, start_loaded, behind_start_
 ghost use Rattle.ds_plain.specs.Freeing.{life_seen, life_loaded, life_swapped, behind_life_load, behind_life_swap};
 ghost use Rattle.ds_plain.specs.Freeing.{free_op, free_row, free_event, free_next};
 ghost use Rattle.ds_plain.specs.Reached.{IsFreeAt};
-ghost use Rattle.ds_plain.specs.Searching.{swap_of};
-ghost use Rattle.ds_plain.specs.Table.{load_of, store_of};
+ghost use Rattle.ds_plain.specs.Operations.{load_of, store_of, swap_of};
 ghost use Rattle.ds_mark.specs.declared.outcome.FreeStep.TheVariants.{FailsFree};
 ghost use Rattle.ds_mark.specs.Walks.{next_in, IsNext};
 

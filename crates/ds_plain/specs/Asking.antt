@@ -1,13 +1,11 @@
 -- Helpers: which behaviours the step table can serve. No clause of the top call speaks of them.
-use Rattle.std.specs.Prelude.{◌≡◌, ℕ, ◌<◌, Bool, true, not, List}
+use Rattle.std.specs.Prelude.{◌≡◌, ℕ, Bool, true, not, List}
 use Rattle.ds_map.specs.Bounds.{Bounds}
-use Rattle.ds_map.specs.Regions.{program_words}
-use Rattle.ds_plain.specs.declared.AccessAt.{AccessAt}
-use Rattle.ds_plain.specs.declared.AccessAt.TheVariants.{LoadWord, StoreWord}
 use Rattle.ds_plain.specs.declared.Position.{Position}
 use Rattle.ds_plain.specs.declared.Position.TheVariants.{Start, Access, Malloc, Free, DrawPrint, StoreEnded, Over, NoRow}
 use Rattle.ds_plain.specs.Behaviour.{Asked, Asks, Silent, Behaviour, Program}
 use Rattle.ds_plain.specs.Table.{position_of, is_over}
+use Rattle.ds_plain.specs.Accessing.{IsAccessAt}
 use Rattle.ds_plain.specs.Reached.{IsAllocAt, AreCursors, IsFreeAt}
 
 -- what is asked has a row, wherever the thread looks for blocks; a thread that asks nothing ends for want of fuel
@@ -23,15 +21,10 @@ AsksRows lim rest = (cursors answers : List ℕ) → has_row lim cursors (rest a
 abbrev pub HasRows : Bounds → Program → Type 0
 HasRows lim program = (thread function argument : ℕ) → AsksRows lim (program.behaves thread function argument)
 
--- the location of an access
-abbrev pub loc_of : AccessAt → ℕ
-loc_of (LoadWord loc) = loc
-loc_of (StoreWord loc value) = loc
-
 -- the position is one that a thread reaches: it works on words that are there
 abbrev pub IsWithin : Bounds → Position → Type 0
 IsWithin lim (Start at) = Unit {0}
-IsWithin lim (Access at) = loc_of at < program_words lim
+IsWithin lim (Access at) = IsAccessAt lim at
 IsWithin lim (Malloc at) = IsAllocAt lim at
 IsWithin lim (Free at) = IsFreeAt lim at
 IsWithin lim (DrawPrint value) = Unit {0}

@@ -7,7 +7,6 @@ use Rattle.ds_map.specs.Words.{first_page_word, first_block_word}
 use Rattle.ds_pages.specs.declared.BlockState.{BlockState}
 use Rattle.ds_pages.specs.declared.BlockState.TheVariants as states
 use Rattle.ds_pages.specs.Words.{is_page_word, block_at, state_word, read_state}
-use Rattle.ds_step.specs.declared.OpKind.TheVariants.{Load, Store, Cas}
 use Rattle.ds_step.specs.declared.WordOp.{WordOp}
 use Rattle.ds_step.specs.declared.FreeTrap.{FreeTrap}
 use Rattle.ds_step.specs.declared.FreeTrap.TheVariants.{BadFree, DoubleFree}
@@ -15,6 +14,7 @@ use Rattle.ds_step.specs.declared.Event.{Event}
 use Rattle.ds_step.specs.declared.Event.TheVariants as events
 use Rattle.ds_plain.specs.declared.FreeAt.{FreeAt}
 use Rattle.ds_plain.specs.declared.FreeAt.TheVariants.{LoadPage, LoadBlock, SwapBlock, StoreFree}
+use Rattle.ds_plain.specs.Operations.{load_of, store_of, swap_of}
 
 -- what comes of a step of a free
 pub data FreeNext : Type 0 where
@@ -64,16 +64,11 @@ life_seen word = seen_life (read_state word)
 -- ROWS
 
 abbrev pub free_op : Bounds → FreeAt → WordOp
-free_op lim (LoadPage address) = record { kind = Load; word = first_page_word + page_at address; a = 0; b = 0 }
-free_op lim (LoadBlock address place) = record { kind = Load; word = first_block_word lim + place; a = 0; b = 0 }
-free_op lim (SwapBlock address place life) = record {
-  kind = Cas;
-  word = first_block_word lim + place;
-  a = state_word life states.Live;
-  b = state_word life states.Freeing;
-}
-free_op lim (StoreFree place life) =
-    record { kind = Store; word = first_block_word lim + place; a = state_word life states.Free; b = 0 }
+free_op lim (LoadPage address) = load_of (first_page_word + page_at address)
+free_op lim (LoadBlock address place) = load_of (first_block_word lim + place)
+free_op lim (SwapBlock address place life) =
+    swap_of (first_block_word lim + place) (state_word life states.Live) (state_word life states.Freeing)
+free_op lim (StoreFree place life) = store_of (first_block_word lim + place) (state_word life states.Free)
 
 abbrev pub free_row : FreeAt → ℕ
 free_row (LoadPage address) = 61

@@ -2,6 +2,8 @@ pub mod Behaviour
 pub mod Parts
 pub mod State
 pub mod Plain
+pub mod Operations
+pub mod Accessing
 pub mod Searching
 pub mod Freeing
 pub mod Table

@@ -7,13 +7,13 @@ use Rattle.ds_map.specs.Words.{first_page_word, first_block_word}
 use Rattle.ds_pages.specs.declared.BlockState.{BlockState}
 use Rattle.ds_pages.specs.declared.BlockState.TheVariants.{Free, Live, Freeing}
 use Rattle.ds_pages.specs.Words.{is_page_word, state_word, read_state}
-use Rattle.ds_step.specs.declared.OpKind.TheVariants.{Load, Cas}
 use Rattle.ds_step.specs.declared.WordOp.{WordOp}
 use Rattle.ds_step.specs.declared.Event.{Event}
 use Rattle.ds_step.specs.declared.Event.TheVariants as events
 use Rattle.ds_plain.specs.declared.Search.{Search}
 use Rattle.ds_plain.specs.declared.AllocAt.{AllocAt}
 use Rattle.ds_plain.specs.declared.AllocAt.TheVariants.{LoadPage, SwapPage, LoadBlock, SwapBlock}
+use Rattle.ds_plain.specs.Operations.{load_of, swap_of}
 
 -- WHERE IT LOOKS
 
@@ -124,10 +124,6 @@ block_seen word = seen_as (read_state word)
 
 -- ROWS
 
--- a compare-and-swap of a word of the table
-abbrev pub swap_of : (word expected new : ℕ) → WordOp
-swap_of word expected new = record { kind = Cas; word = word; a = expected; b = new }
-
 abbrev pub page_word_in : Bounds → Search → ℕ
 page_word_in lim search = first_page_word + page_in lim search
 
@@ -135,9 +131,9 @@ abbrev pub block_word_in : Bounds → Search → (index : ℕ) → ℕ
 block_word_in lim search index = first_block_word lim + place_in_search lim search index
 
 abbrev pub alloc_op : Bounds → AllocAt → WordOp
-alloc_op lim (LoadPage search) = record { kind = Load; word = page_word_in lim search; a = 0; b = 0 }
+alloc_op lim (LoadPage search) = load_of (page_word_in lim search)
 alloc_op lim (SwapPage search) = swap_of (page_word_in lim search) 0 (suc search.class)
-alloc_op lim (LoadBlock search index) = record { kind = Load; word = block_word_in lim search index; a = 0; b = 0 }
+alloc_op lim (LoadBlock search index) = load_of (block_word_in lim search index)
 alloc_op lim (SwapBlock search index life) =
     swap_of (block_word_in lim search index) (state_word life Free) (state_word (suc life) Live)
 

@@ -3,8 +3,7 @@ use Rattle.std.specs.Prelude.{ℕ, ◌+◌, Bool, true, false, ◌==◌, ◌&&�
 use Rattle.std.specs.Prelude.{slice_index}
 use Rattle.ds_map.specs.Bounds.{Bounds}
 use Rattle.ds_map.specs.Blocks.{class_of}
-use Rattle.ds_map.specs.Words.{word_of}
-use Rattle.ds_step.specs.declared.OpKind.TheVariants.{Load, Store, Add}
+use Rattle.ds_step.specs.declared.OpKind.TheVariants.{Add}
 use Rattle.ds_step.specs.declared.WordOp.{WordOp}
 use Rattle.ds_step.specs.declared.Event.{Event}
 use Rattle.ds_step.specs.declared.Event.TheVariants as events
@@ -15,13 +14,14 @@ use Rattle.ds_plain.specs.declared.Request.{Request}
 use Rattle.ds_plain.specs.declared.Request.TheVariants as requests
 use Rattle.ds_plain.specs.declared.StartAt.{StartAt}
 use Rattle.ds_plain.specs.declared.StartAt.TheVariants.{LoadStart}
-use Rattle.ds_plain.specs.declared.AccessAt.{AccessAt}
-use Rattle.ds_plain.specs.declared.AccessAt.TheVariants.{LoadWord, StoreWord}
+use Rattle.ds_plain.specs.declared.Change.TheVariants.{Put, Combine, Replace}
+use Rattle.ds_plain.specs.declared.AccessAt.TheVariants.{LoadWord, StoreWord, CombineWord, ReplaceWord}
 use Rattle.ds_plain.specs.declared.AllocAt.TheVariants as allocs
 use Rattle.ds_plain.specs.declared.FreeAt.TheVariants as frees
 use Rattle.ds_plain.specs.declared.Position.{Position}
 use Rattle.ds_plain.specs.declared.Position.TheVariants.{Start, Access, Malloc, Free, DrawPrint, StoreEnded, Over, NoRow}
-use Rattle.ds_plain.specs.Parts.{is_whole}
+use Rattle.ds_plain.specs.Operations.{load_of, store_of}
+use Rattle.ds_plain.specs.Accessing.{access_op, access_row, access_event, changing_at}
 use Rattle.ds_plain.specs.Searching.{search_from, alloc_op, alloc_row, alloc_event}
 use Rattle.ds_plain.specs.Freeing.{free_op, free_row, free_event, is_freeable}
 
@@ -39,20 +39,8 @@ start_word t = 16 + t
 
 -- OPERATIONS
 
--- a load of a word of the table
-abbrev pub load_of : ℕ → WordOp
-load_of word = record { kind = Load; word = word; a = 0; b = 0 }
-
--- a store of a value to a word of the table
-abbrev pub store_of : (word value : ℕ) → WordOp
-store_of word value = record { kind = Store; word = word; a = value; b = 0 }
-
 abbrev pub start_op : ℕ → StartAt → WordOp
 start_op t LoadStart = load_of (start_word t)
-
-abbrev pub access_op : Bounds → AccessAt → WordOp
-access_op lim (LoadWord loc) = load_of (word_of lim loc)
-access_op lim (StoreWord loc value) = store_of (word_of lim loc) value
 
 -- the operation that thread t makes at a position; a thread that makes no step makes none
 abbrev pub op_at : Bounds → ℕ → Position → WordOp
@@ -69,10 +57,6 @@ op_at lim t NoRow = load_of 0
 
 abbrev pub start_row : StartAt → ℕ
 start_row LoadStart = 1
-
-abbrev pub access_row : AccessAt → ℕ
-access_row (LoadWord loc) = 14
-access_row (StoreWord loc value) = 15
 
 -- the number of the row; 0 is none
 abbrev pub row_at : Position → ℕ
@@ -93,10 +77,6 @@ begins t old = (t == 0) && (old == 1)
 
 abbrev pub start_event : ℕ → StartAt → ℕ → Event
 start_event t LoadStart old = if begins t old then events.Begin else events.Log
-
-abbrev pub access_event : AccessAt → ℕ → Event
-access_event (LoadWord loc) old = events.Load loc old
-access_event (StoreWord loc value) old = events.Store loc value
 
 -- what the answer means
 abbrev pub event_at : Bounds → ℕ → Position → ℕ → Event
@@ -138,9 +118,11 @@ freeing_at lim address = if is_freeable lim address then Free (frees.LoadPage ad
 abbrev pub position_of : Bounds → (cursors : List ℕ) → Request → Position
 position_of lim cursors (requests.Load access) = Access (LoadWord access.loc)
 position_of lim cursors (requests.Store access value) =
-    if is_whole access then Access (StoreWord access.loc value) else NoRow
-position_of lim cursors (requests.Rmw access op value) = NoRow
-position_of lim cursors (requests.Cas access expected new) = NoRow
+    Access (changing_at access (StoreWord access.loc value) (Put value))
+position_of lim cursors (requests.Rmw access op value) =
+    Access (changing_at access (CombineWord access.loc op value) (Combine op value))
+position_of lim cursors (requests.Cas access expected new) =
+    Access (changing_at access (ReplaceWord access.loc expected new) (Replace expected new))
 position_of lim cursors (requests.Malloc bytes) = looking_for cursors (class_of bytes)
 position_of lim cursors (requests.Free address) = freeing_at lim address
 position_of lim cursors (requests.Note loc value) = NoRow

@@ -10,8 +10,6 @@ use Rattle.ds_plain.specs.declared.Stop.{Stop}
 use Rattle.ds_plain.specs.declared.Stop.TheVariants.{Idle, Running, Fuel}
 use Rattle.ds_plain.specs.declared.StartAt.{StartAt}
 use Rattle.ds_plain.specs.declared.StartAt.TheVariants.{LoadStart}
-use Rattle.ds_plain.specs.declared.AccessAt.{AccessAt}
-use Rattle.ds_plain.specs.declared.AccessAt.TheVariants.{LoadWord, StoreWord}
 use Rattle.ds_plain.specs.declared.TrapKind.{TrapKind}
 use Rattle.ds_plain.specs.declared.TrapKind.TheVariants.{BadFree, DoubleFree}
 use Rattle.ds_plain.specs.declared.FreeAt.{FreeAt}
@@ -20,6 +18,7 @@ use Rattle.ds_plain.specs.declared.Position.{Position}
 use Rattle.ds_plain.specs.declared.Position.TheVariants.{Start, Access, Malloc, Free, DrawPrint, StoreEnded, Over, NoRow}
 use Rattle.ds_plain.specs.Behaviour.{Asked, Asks, Silent, place_in_text, Behaviour, told, silent, Program}
 use Rattle.ds_plain.specs.Plain.{trap_stop}
+use Rattle.ds_plain.specs.Accessing.{AccessNext, AccessesOn, Tells, access_next}
 use Rattle.ds_plain.specs.Searching.{AllocNext, Looks, Takes, TakesNone, place_behind, alloc_next}
 use Rattle.ds_plain.specs.Freeing.{FreeNext, FreesOn, Freed, FailsFree, free_next}
 use Rattle.ds_plain.specs.Table.{begins, step_at, position_of, is_over}
@@ -79,9 +78,10 @@ moved_from_start program lim t a LoadStart old =
     if begins t old then going_on lim a.cursors (a.units + 1) (program.behaves t program.main 0)
     else standing lim a.cursors a.rest (a.units + 1) a.began (Start LoadStart)
 
-abbrev pub moved_from_access : Bounds → Thread → AccessAt → ℕ → Thread
-moved_from_access lim a (LoadWord loc) old = going_on lim a.cursors (a.units + 1) (told a.rest old)
-moved_from_access lim a (StoreWord loc value) old = going_on lim a.cursors (a.units + 1) (told a.rest 0)
+-- an access goes on, or the thread is told an answer
+abbrev pub moved_from_access : Bounds → Thread → AccessNext → Thread
+moved_from_access lim a (AccessesOn at) = standing lim a.cursors a.rest (a.units + 1) a.began (Access at)
+moved_from_access lim a (Tells answer) = going_on lim a.cursors (a.units + 1) (told a.rest answer)
 
 -- A malloc is told where its block starts, or 0. The next one of its class begins to look behind that block.
 abbrev pub moved_from_malloc : Bounds → Thread → AllocNext → Thread
@@ -113,7 +113,7 @@ moved_from_free lim a address (FailsFree trap) =
 
 abbrev pub moved_from : Program → Bounds → ℕ → Thread → Position → ℕ → Thread
 moved_from program lim t a (Start at) old = moved_from_start program lim t a at old
-moved_from program lim t a (Access at) old = moved_from_access lim a at old
+moved_from program lim t a (Access at) old = moved_from_access lim a (access_next at old)
 moved_from program lim t a (Malloc at) old = moved_from_malloc lim a (alloc_next lim at old)
 moved_from program lim t a (Free at) old = moved_from_free lim a (freed_address at) (free_next at old)
 moved_from program lim t a (DrawPrint value) old = going_on lim a.cursors (a.units + 1) (told a.rest 0)

@@ -125,13 +125,52 @@ pub enum StartAt {
     LoadStart,
 }
 
+/// What a thread makes of a part of a word in one step.
+#[derive(Clone, Copy, Debug, PartialEq, Eq)]
+pub enum Change {
+    /// It puts a value there.
+    Put(u64),
+    /// It combines what stands there with a value by an operation.
+    Combine(RmwOp, u64),
+    /// It puts `new` there, if it finds `expected`.
+    Replace { expected: u64, new: u64 },
+}
+
 /// Where a thread stands that accesses program memory.
 #[derive(Clone, Copy, Debug, PartialEq, Eq)]
 pub enum AccessAt {
     /// It loads the program word of a location.
-    LoadWord { loc: u32 },
+    LoadWord {
+        loc: u32,
+    },
     /// It stores a value to the program word of a location.
-    StoreWord { loc: u32, value: u64 },
+    StoreWord {
+        loc: u32,
+        value: u64,
+    },
+    /// It combines the program word of a location with a value by an operation.
+    CombineWord {
+        loc: u32,
+        op: RmwOp,
+        value: u64,
+    },
+    /// It puts `new` to the program word of a location, if it finds `expected`.
+    ReplaceWord {
+        loc: u32,
+        expected: u64,
+        new: u64,
+    },
+    /// It loads the program word of which it changes a part.
+    LoadPart {
+        access: Access,
+        change: Change,
+    },
+    /// It changes a part of a program word that it saw so.
+    SwapPart {
+        access: Access,
+        change: Change,
+        seen: u64,
+    },
 }
 
 /// How far a `malloc` has come through the places of its size class. It looks at the pages one after another, from the

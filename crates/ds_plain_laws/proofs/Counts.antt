@@ -9,17 +9,17 @@ use Rattle.ds_step.specs.declared.Step.{Step}
 use Rattle.ds_plain.specs.declared.Stop.{Stop}
 use Rattle.ds_plain.specs.declared.Stop.TheVariants.{Fuel}
 use Rattle.ds_plain.specs.declared.StartAt.TheVariants.{LoadStart}
-use Rattle.ds_plain.specs.declared.AccessAt.TheVariants.{LoadWord, StoreWord}
 use Rattle.ds_plain.specs.declared.Position.{Position}
 use Rattle.ds_plain.specs.declared.Position.TheVariants.{Start, Malloc, Free, DrawPrint, StoreEnded, Over, NoRow}
 use Rattle.ds_plain.specs.declared.Position.TheVariants as positions
 use Rattle.ds_plain.specs.Behaviour.{Asked, Asks, Silent, Behaviour, place_in_text, told, Program}
+use Rattle.ds_plain.specs.Accessing.{AccessNext, AccessesOn, Tells, access_next}
 use Rattle.ds_plain.specs.Searching.{AllocNext, Looks, Takes, TakesNone, place_behind, alloc_next}
 use Rattle.ds_plain.specs.Freeing.{FreeNext, FreesOn, Freed, FailsFree, free_next}
 use Rattle.ds_plain.specs.Table.{begins, position_of, is_over}
 use Rattle.ds_plain.specs.Plain.{trap_stop}
-use Rattle.ds_plain.specs.Thread.{Thread, paying, standing, arriving, going_on, moved_from_malloc, moved_from_free}
-use Rattle.ds_plain.specs.Thread.{freed_address, trap_kind, moved_from, Follows}
+use Rattle.ds_plain.specs.Thread.{Thread, paying, standing, arriving, going_on, moved_from_access, moved_from_malloc}
+use Rattle.ds_plain.specs.Thread.{moved_from_free, freed_address, trap_kind, moved_from, Follows}
 use Rattle.ds_plain.specs.History.{History, steps_of}
 use Rattle.ds_plain_laws.proofs.Choices.{of_if}
 
@@ -100,6 +100,12 @@ module _ (program : Program) (lim : Bounds) (t : ℕ) where
   abbrev after : Position → Behaviour → ℕ → Bool → List ℕ → ℕ → Thread
   after p rest units began cursors old = moved_from program lim t (thread_with rest p units began cursors) p old
 
+  access_pays : (a : Thread) (next : AccessNext) → a.units < lim.fuel
+      → Pays lim (a.units + 1) (moved_from_access lim a next)
+  access_pays a (AccessesOn at) lt =
+      standing_pays lim a.cursors a.rest (a.units + 1) a.began (positions.Access at) (omega arith)
+  access_pays a (Tells answer) lt = going_pays lim a.cursors (a.units + 1) (told a.rest answer) (omega arith)
+
   malloc_pays : (a : Thread) (next : AllocNext) → a.units < lim.fuel
       → Pays lim (a.units + 1) (moved_from_malloc lim a next)
   malloc_pays a (Looks at) lt = standing_pays lim a.cursors a.rest (a.units + 1) a.began (Malloc at) (omega arith)
@@ -127,10 +133,8 @@ module _ (program : Program) (lim : Bounds) (t : ℕ) where
       (standing lim cursors rest (units + 1) began (Start LoadStart))
       (going_pays lim cursors (units + 1) (program.behaves t program.main 0) (omega arith))
       (standing_pays lim cursors rest (units + 1) began (Start LoadStart) (omega arith))
-  step_pays (positions.Access (LoadWord loc)) rest units began cursors old lt over goes =
-      going_pays lim cursors (units + 1) (told rest old) (omega arith)
-  step_pays (positions.Access (StoreWord loc value)) rest units began cursors old lt over goes =
-      going_pays lim cursors (units + 1) (told rest 0) (omega arith)
+  step_pays (positions.Access at) rest units began cursors old lt over goes =
+      access_pays (thread_with rest (positions.Access at) units began cursors) (access_next at old) lt
   step_pays (Malloc at) rest units began cursors old lt over goes =
       malloc_pays (thread_with rest (Malloc at) units began cursors) (alloc_next lim at old) lt
   step_pays (Free at) rest units began cursors old lt over goes =

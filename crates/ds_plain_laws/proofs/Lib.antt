@@ -6,6 +6,7 @@ pub mod Phases
 pub mod Leaving
 pub mod Links
 pub mod Makes
+pub mod Accesses
 pub mod Mallocs
 pub mod Frees
 pub mod Counts

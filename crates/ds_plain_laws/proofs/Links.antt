@@ -11,8 +11,10 @@ use Rattle.ds_plain.specs.declared.Request.{Request}
 use Rattle.ds_plain.specs.declared.Request.TheVariants as requests
 use Rattle.ds_plain.specs.declared.StartAt.{StartAt}
 use Rattle.ds_plain.specs.declared.StartAt.TheVariants.{LoadStart}
+use Rattle.ds_plain.specs.declared.Change.{Change}
+use Rattle.ds_plain.specs.declared.Change.TheVariants.{Put, Combine, Replace}
 use Rattle.ds_plain.specs.declared.AccessAt.{AccessAt}
-use Rattle.ds_plain.specs.declared.AccessAt.TheVariants.{LoadWord, StoreWord}
+use Rattle.ds_plain.specs.declared.AccessAt.TheVariants.{LoadWord, StoreWord, CombineWord, ReplaceWord, LoadPart, SwapPart}
 use Rattle.ds_plain.specs.declared.AllocAt.{AllocAt}
 use Rattle.ds_plain.specs.declared.AllocAt.TheVariants as allocs
 use Rattle.ds_plain.specs.declared.FreeAt.{FreeAt}
@@ -24,6 +26,7 @@ use Rattle.ds_plain.specs.Behaviour.{Asked, Asks, Silent, Behaviour, Program}
 use Rattle.ds_plain.specs.Parts.{is_whole}
 use Rattle.ds_plain.specs.State.{Freeing, Block, block_in, Phase, Stopped, State, first_phase, stop_of_phase}
 use Rattle.ds_plain.specs.State.{first_left, places_wanted, untouched, come_to}
+use Rattle.ds_plain.specs.Accessing.{is_refused}
 use Rattle.ds_plain.specs.Searching.{search_from, page_in}
 use Rattle.ds_plain.specs.Freeing.{is_freeable}
 use Rattle.ds_plain.specs.Reached.{IsAllocAt, AreCursors, ahead_of, IsFreeAt}
@@ -59,12 +62,33 @@ pub data Ending (program : Program) (t : ℕ) (rest : Behaviour) (began : Bool) 
 abbrev pub StartLinked : Program → ℕ → Bool → Phase → StartAt → Type 0
 StartLinked program t began phase LoadStart = (began ≡ false) × (phase ≡ first_phase program t)
 
--- the phase of a thread that accesses program memory
-abbrev pub AccessLinked : Behaviour → Phase → AccessAt → Type 0
-AccessLinked rest phase (LoadWord loc) =
+-- the request of a thread that changes a part of a word so
+abbrev pub change_request : Access → Change → Request
+change_request access (Put value) = requests.Store access value
+change_request access (Combine op value) = requests.Rmw access op value
+change_request access (Replace expected new) = requests.Cas access expected new
+
+-- the phase of a thread that changes a part of a word
+pub record PartLinked (rest : Behaviour) (began : Bool) (phase : Phase) (access : Access) (change : Change)
+    : Type 0 where
+  pub has_begun : began ≡ true
+  pub narrow : is_whole access ≡ false
+  pub asking : Asking rest phase (change_request access change)
+
+-- the phase of a thread that accesses program memory; the word that it swaps is one of which it makes its change
+abbrev pub AccessLinked : Behaviour → Bool → Phase → AccessAt → Type 0
+AccessLinked rest began phase (LoadWord loc) =
     (access : Access) × (access.loc ≡ loc) × Asking rest phase (requests.Load access)
-AccessLinked rest phase (StoreWord loc value) =
+AccessLinked rest began phase (StoreWord loc value) =
     (access : Access) × (access.loc ≡ loc) × (is_whole access ≡ true) × Asking rest phase (requests.Store access value)
+AccessLinked rest began phase (CombineWord loc op value) =
+    (access : Access) × (access.loc ≡ loc) × (is_whole access ≡ true) × Asking rest phase (requests.Rmw access op value)
+AccessLinked rest began phase (ReplaceWord loc expected new) =
+    (access : Access) × (access.loc ≡ loc) × (is_whole access ≡ true)
+    × Asking rest phase (requests.Cas access expected new)
+AccessLinked rest began phase (LoadPart access change) = PartLinked rest began phase access change
+AccessLinked rest began phase (SwapPart access change seen) =
+    PartLinked rest began phase access change × (is_refused access change seen ≡ false)
 
 -- the page at whose blocks a malloc looks has the class that it wants
 abbrev pub IsSized : Bounds → Pages → AllocAt → Type 0
@@ -112,7 +136,7 @@ module _ (program : Program) (lim : Bounds) (t : ℕ) where
   -- the state of a thread that stands at a position
   abbrev pub Linked : Behaviour → Bool → State → Position → Type 0
   Linked rest began s (Start at) = StartLinked program t began (s.threads t) at
-  Linked rest began s (positions.Access at) = AccessLinked rest (s.threads t) at
+  Linked rest began s (positions.Access at) = AccessLinked rest began (s.threads t) at
   Linked rest began s (Malloc at) = MallocLinked lim rest began s.pages (s.threads t) at
   Linked rest began s (Free at) =
       FreeLinked lim t rest began s.pages s.blocks (s.threads t) at × IsFreeAt lim at
@@ -147,6 +171,14 @@ linked_stop program lim t rest began s (Start LoadStart) l = start_stop program 
 linked_stop program lim t rest began s (positions.Access (LoadWord loc)) l = runs_stop rest (s.threads t) l.2.runs
 linked_stop program lim t rest began s (positions.Access (StoreWord loc value)) l =
     runs_stop rest (s.threads t) l.3.runs
+linked_stop program lim t rest began s (positions.Access (CombineWord loc op value)) l =
+    runs_stop rest (s.threads t) l.3.runs
+linked_stop program lim t rest began s (positions.Access (ReplaceWord loc expected new)) l =
+    runs_stop rest (s.threads t) l.3.runs
+linked_stop program lim t rest began s (positions.Access (LoadPart access change)) l =
+    runs_stop rest (s.threads t) l.asking.runs
+linked_stop program lim t rest began s (positions.Access (SwapPart access change seen)) l =
+    runs_stop rest (s.threads t) l.0.asking.runs
 linked_stop program lim t rest began s (Malloc at) l = runs_stop rest (s.threads t) l.asking.runs
 linked_stop program lim t rest began s (Free (frees.LoadPage address)) l =
     runs_stop rest (s.threads t) l.0.asking.runs
@@ -239,6 +271,14 @@ module _ (program : Program) (lim : Bounds) (u t : ℕ) (s s' : State) (ne : u �
     leaves.freed t place ne (ap (λ (b : Block). b.state) l.3) ∙ l.3,
   )
 
+  part_on : (rest : Behaviour) (began : Bool) (access : Access) (change : Change)
+      → PartLinked rest began (s.threads t) access change → PartLinked rest began (s'.threads t) access change
+  part_on rest began access change l = record {
+    has_begun = l.has_begun;
+    narrow = l.narrow;
+    asking = asking_on rest (s.threads t) (s'.threads t) (change_request access change) l.asking passes;
+  }
+
   stands_on : (rest : Behaviour) (began : Bool) (p : Position) → Linked program lim t rest began s p
       → Linked program lim t rest began s' p
   stands_on rest began (Start LoadStart) l =
@@ -247,6 +287,13 @@ module _ (program : Program) (lim : Bounds) (u t : ℕ) (s s' : State) (ne : u �
       (l.0, l.1, asking_on rest (s.threads t) (s'.threads t) (requests.Load l.0) l.2 passes)
   stands_on rest began (positions.Access (StoreWord loc value)) l =
       (l.0, l.1, l.2, asking_on rest (s.threads t) (s'.threads t) (requests.Store l.0 value) l.3 passes)
+  stands_on rest began (positions.Access (CombineWord loc op value)) l =
+      (l.0, l.1, l.2, asking_on rest (s.threads t) (s'.threads t) (requests.Rmw l.0 op value) l.3 passes)
+  stands_on rest began (positions.Access (ReplaceWord loc expected new)) l =
+      (l.0, l.1, l.2, asking_on rest (s.threads t) (s'.threads t) (requests.Cas l.0 expected new) l.3 passes)
+  stands_on rest began (positions.Access (LoadPart access change)) l = part_on rest began access change l
+  stands_on rest began (positions.Access (SwapPart access change seen)) l =
+      (part_on rest began access change l.0, l.1)
   stands_on rest began (Malloc at) l = malloc_on rest began at l
   stands_on rest began (Free at) l = (free_on rest began at l.0, l.1)
   stands_on rest began (DrawPrint value) l =
@@ -327,14 +374,17 @@ module _ (program : Program) (lim : Bounds) (t : ℕ) (s : State) (cursors : Lis
     stopping_linked units (Full place what) asking = rowless_linked units (requests.Stop (Full place what)) asking
     stopping_linked units Fuel asking = rowless_linked units (requests.Stop Fuel) asking
 
-    -- a store has a row where it is of a whole word
-    storing_linked : (units value : ℕ) (access : Access) (b : Bool) → is_whole access ≡ b
-        → Asking rest (s.threads t) (requests.Store access value)
+    -- a change of a word is one of the whole word, or begins with a load
+    changing_linked : (units : ℕ) (access : Access) (whole : AccessAt) (change : Change) (b : Bool)
+        → is_whole access ≡ b → (is_whole access ≡ true → AccessLinked rest true (s.threads t) whole)
+        → Asking rest (s.threads t) (change_request access change)
         → IsLinked program lim t s
-        (standing lim cursors rest units true (if b then positions.Access (StoreWord access.loc value) else NoRow))
-    storing_linked units value access true whole asking =
-        asking_linked units (positions.Access (StoreWord access.loc value)) (access, refl, whole, asking)
-    storing_linked units value access false whole asking = rowless_linked units (requests.Store access value) asking
+        (standing lim cursors rest units true (positions.Access (if b then whole else LoadPart access change)))
+    changing_linked units access whole change true is linked asking =
+        asking_linked units (positions.Access whole) (linked is)
+    changing_linked units access whole change false is linked asking =
+        asking_linked units (positions.Access (LoadPart access change))
+        (record { has_begun = refl; narrow = is; asking = asking })
 
     -- a malloc begins with all places of its class
     taking_linked : (units bytes begun : ℕ) (place : Place) (class : Option ℕ)
@@ -382,14 +432,20 @@ module _ (program : Program) (lim : Bounds) (t : ℕ) (s : State) (cursors : Lis
         asking_linked units (positions.Access (LoadWord access.loc))
         (access, refl, record { runs = fresh; begun = begun; place = place; asks = asks })
     standing_linked units begun place (requests.Store access value) asks =
-        storing_linked units value access (is_whole access) refl
-        (record { runs = fresh; begun = begun; place = place; asks = asks })
+        let asking : Asking rest (s.threads t) (requests.Store access value) =
+        record { runs = fresh; begun = begun; place = place; asks = asks } in
+        changing_linked units access (StoreWord access.loc value) (Put value) (is_whole access) refl
+        (λ is. (access, refl, is, asking)) asking
     standing_linked units begun place (requests.Rmw access op value) asks =
-        rowless_linked units (requests.Rmw access op value)
-        (record { runs = fresh; begun = begun; place = place; asks = asks })
+        let asking : Asking rest (s.threads t) (requests.Rmw access op value) =
+        record { runs = fresh; begun = begun; place = place; asks = asks } in
+        changing_linked units access (CombineWord access.loc op value) (Combine op value) (is_whole access) refl
+        (λ is. (access, refl, is, asking)) asking
     standing_linked units begun place (requests.Cas access expected new) asks =
-        rowless_linked units (requests.Cas access expected new)
-        (record { runs = fresh; begun = begun; place = place; asks = asks })
+        let asking : Asking rest (s.threads t) (requests.Cas access expected new) =
+        record { runs = fresh; begun = begun; place = place; asks = asks } in
+        changing_linked units access (ReplaceWord access.loc expected new) (Replace expected new) (is_whole access) refl
+        (λ is. (access, refl, is, asking)) asking
     standing_linked units begun place (requests.Malloc bytes) asks =
         taking_linked units bytes begun place (class_of bytes) asks refl
     standing_linked units begun place (requests.Free address) asks =

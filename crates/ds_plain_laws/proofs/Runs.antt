@@ -12,7 +12,6 @@ use Rattle.ds_step.specs.declared.Step.{Step}
 use Rattle.ds_step.specs.Word.{words_after, answer_on}
 use Rattle.ds_plain.specs.declared.Stop.{Stop}
 use Rattle.ds_plain.specs.declared.StartAt.TheVariants.{LoadStart}
-use Rattle.ds_plain.specs.declared.AccessAt.TheVariants.{LoadWord, StoreWord}
 use Rattle.ds_plain.specs.declared.Position.{Position}
 use Rattle.ds_plain.specs.declared.Position.TheVariants.{Start, Access, Malloc, Free, DrawPrint, StoreEnded, Over, NoRow}
 use Rattle.ds_plain.specs.Behaviour.{Behaviour, silent, Program}
@@ -26,7 +25,8 @@ use Rattle.ds_plain_laws.proofs.Choices.{replaced_same, replaced_other}
 use Rattle.ds_plain_laws.proofs.Words.{agrees_first, roomy_first}
 use Rattle.ds_plain_laws.proofs.Leaving.{frees_first}
 use Rattle.ds_plain_laws.proofs.Links.{Walks, LinkedAt, IsLinked, linked_on, linked_stop, waiting_linked}
-use Rattle.ds_plain_laws.proofs.Makes.{Makes, Before, start_makes, print_makes, load_word_makes, store_word_makes, end_makes}
+use Rattle.ds_plain_laws.proofs.Makes.{Makes, Before, start_makes, print_makes, end_makes}
+use Rattle.ds_plain_laws.proofs.Accesses.{access_makes}
 use Rattle.ds_plain_laws.proofs.Mallocs.{malloc_makes}
 use Rattle.ds_plain_laws.proofs.Frees.{free_makes}
 use Rattle.ds_plain_laws.proofs.Counts.{over_rest, standing_pays, trace_length, history_length}
@@ -75,10 +75,8 @@ module _ (program : Program) (lim : Bounds) (stops : List Stop) (t : ℕ) (words
   makes_at (Start LoadStart) rest units old began cursors ss within few over is l follows ends =
       start_makes (setting_of program lim stops) t words s before rest units began cursors (begins t old)
       (begins_main t old) l
-  makes_at (Access (LoadWord loc)) rest units old began cursors ss within few over is l follows ends =
-      load_word_makes (setting_of program lim stops) t words s before rest units began cursors loc old is l
-  makes_at (Access (StoreWord loc value)) rest units old began cursors ss within few over is l follows ends =
-      store_word_makes (setting_of program lim stops) t words s before rest units began cursors loc value l
+  makes_at (Access at) rest units old began cursors ss within few over is l follows ends =
+      access_makes (setting_of program lim stops) t words s before rest units began cursors at old is l
   makes_at (Malloc at) rest units old began cursors ss within few over is l follows ends =
       malloc_makes (setting_of program lim stops) t words s before rest units began cursors at old is l
   makes_at (Free at) rest units old began cursors ss within few over is l follows ends =
