@@ -10,12 +10,14 @@ use Rattle.ds_plain.specs.declared.Stop.TheVariants.{Idle, Returned, Trap, Full,
 use Rattle.ds_plain.specs.declared.Stop.TheVariants as stops
 use Rattle.ds_plain.specs.declared.Request.{Request}
 use Rattle.ds_plain.specs.declared.Request.TheVariants as requests
-use Rattle.ds_plain.specs.declared.AccessAt.TheVariants.{LoadWord, StoreWord}
+use Rattle.ds_plain.specs.declared.AccessAt.{AccessAt}
+use Rattle.ds_plain.specs.declared.AccessAt.TheVariants.{LoadWord, StoreWord, CombineWord, ReplaceWord}
+use Rattle.ds_plain.specs.declared.Change.TheVariants.{Put, Combine, Replace}
 use Rattle.ds_plain.specs.declared.Position.{Position}
 use Rattle.ds_plain.specs.declared.Position.TheVariants.{Start, Malloc, Free, DrawPrint, StoreEnded, Over, NoRow}
 use Rattle.ds_plain.specs.declared.Position.TheVariants as positions
 use Rattle.ds_plain.specs.Behaviour.{Asked, Asks, Silent, Behaviour, silent, told, behaviour, place_in_text}
-use Rattle.ds_plain.specs.Parts.{is_whole}
+use Rattle.ds_plain.specs.Accessing.{changing_at}
 use Rattle.ds_plain.specs.declared.AllocAt.TheVariants as allocs
 use Rattle.ds_plain.specs.declared.FreeAt.TheVariants as freeing
 use Rattle.ds_plain.specs.Searching.{search_from}
@@ -76,10 +78,9 @@ module _ (r : Running) (q : Machine) (place : Place) (rest : Behaviour) (lim : B
   goes_by p true here = here
   goes_by p false here = tt
 
-  storing : (b : Bool) (loc value : ℕ) → Serves r q rest
-      → GoesOn r q place rest (stands_at lim units (if b then positions.Access (StoreWord loc value) else NoRow))
-  storing true loc value serves = goes_by (positions.Access (StoreWord loc value)) (nat_lt units lim.fuel) serves
-  storing false loc value serves = goes_by NoRow (nat_lt units lim.fuel) tt
+  accessing : (at : AccessAt) → Serves r q rest
+      → GoesOn r q place rest (stands_at lim units (positions.Access at))
+  accessing at serves = goes_by (positions.Access at) (nat_lt units lim.fuel) serves
 
   taking : (class : Option ℕ) → Serves r q rest
       → GoesOn r q place rest (stands_at lim units (looking_for cursors class))
@@ -104,11 +105,13 @@ module _ (r : Running) (q : Machine) (place : Place) (rest : Behaviour) (lim : B
   goes : (request : Request) → (is_stop request ≡ false → Serves r q rest)
       → (is_stop request ≡ false → place ≡ place_in_text (rest []))
       → GoesOn r q place rest (stands_at lim units (position_of lim cursors request))
-  goes (requests.Load access) serves known =
-      goes_by (positions.Access (LoadWord access.loc)) (nat_lt units lim.fuel) (serves refl)
-  goes (requests.Store access value) serves known = storing (is_whole access) access.loc value (serves refl)
-  goes (requests.Rmw access op value) serves known = goes_by NoRow (nat_lt units lim.fuel) tt
-  goes (requests.Cas access expected new) serves known = goes_by NoRow (nat_lt units lim.fuel) tt
+  goes (requests.Load access) serves known = accessing (LoadWord access.loc) (serves refl)
+  goes (requests.Store access value) serves known =
+      accessing (changing_at access (StoreWord access.loc value) (Put value)) (serves refl)
+  goes (requests.Rmw access op value) serves known =
+      accessing (changing_at access (CombineWord access.loc op value) (Combine op value)) (serves refl)
+  goes (requests.Cas access expected new) serves known =
+      accessing (changing_at access (ReplaceWord access.loc expected new) (Replace expected new)) (serves refl)
   goes (requests.Malloc bytes) serves known = taking (class_of bytes) (serves refl)
   goes (requests.Free address) serves known = freeing_by (is_freeable lim address) address (serves refl) (known refl)
   goes (requests.Note loc value) serves known = goes_by NoRow (nat_lt units lim.fuel) tt

@@ -8,12 +8,10 @@ use Rattle.ds_plain.specs.declared.Stop.TheVariants.{Idle, Running, Returned, Tr
 use Rattle.ds_plain.specs.declared.Request.{Request}
 use Rattle.ds_plain.specs.declared.Request.TheVariants as requests
 use Rattle.ds_plain.specs.declared.StartAt.TheVariants.{LoadStart}
-use Rattle.ds_plain.specs.declared.AccessAt.TheVariants.{StoreWord}
 use Rattle.ds_plain.specs.declared.FreeAt.TheVariants as frees
 use Rattle.ds_plain.specs.declared.Position.{Position}
 use Rattle.ds_plain.specs.declared.Position.TheVariants.{Start, Access, Malloc, Free, DrawPrint, StoreEnded, Over, NoRow}
 use Rattle.ds_plain.specs.Behaviour.{silent}
-use Rattle.ds_plain.specs.Parts.{is_whole}
 use Rattle.ds_plain.specs.Freeing.{is_freeable}
 use Rattle.ds_plain.specs.Table.{looking_for, position_of, end_by}
 use Rattle.ds_plain.specs.Thread.{Thread}
@@ -61,10 +59,6 @@ stop_is_on (Trap trap) = tt
 stop_is_on (Full place what) = tt
 stop_is_on Fuel = tt
 
-store_is_on : (b : Bool) (loc value : ℕ) → IsOn (if b then Access (StoreWord loc value) else NoRow)
-store_is_on true loc value = tt
-store_is_on false loc value = tt
-
 malloc_is_on : (cursors : List ℕ) (class : Option ℕ) → IsOn (looking_for cursors class)
 malloc_is_on cursors None = tt
 malloc_is_on cursors (Some class) = tt
@@ -75,7 +69,7 @@ free_is_on false address = tt
 
 request_is_on : (lim : Bounds) (cursors : List ℕ) (request : Request) → IsOn (position_of lim cursors request)
 request_is_on lim cursors (requests.Load access) = tt
-request_is_on lim cursors (requests.Store access value) = store_is_on (is_whole access) access.loc value
+request_is_on lim cursors (requests.Store access value) = tt
 request_is_on lim cursors (requests.Rmw access op value) = tt
 request_is_on lim cursors (requests.Cas access expected new) = tt
 request_is_on lim cursors (requests.Malloc bytes) = malloc_is_on cursors (class_of bytes)

@@ -2,10 +2,10 @@
 use Rattle.std.proofs.Common.{◌≡◌, ℕ, zero, suc, ◌+◌, ◌*◌, ◌/◌, ◌%◌, ◌<◌, ◌≤◌, Bool, true, false, not}
 use Rattle.std.proofs.Common.{◌&&◌, ◌||◌, ◌==◌, if◌then◌else◌, nat_lt, nat_le, List, [], ◌∷◌, length, Option, Some, None}
 use Rattle.std.proofs.Common.{Result, Ok, Err, refl, arith, option_map, slice_get, slice_index}
-use Rattle.std.proofs.lemmas.Bool.{and_parts}
+use Rattle.std.proofs.lemmas.Bool.{and_parts, eqb-true}
 use Rattle.std.proofs.lemmas.Bool.Decides.{nat_tests}
 use Rattle.ds_ast.specs.declared.ty.Scalar.{Scalar}
-use Rattle.ds_ast.specs.declared.ty.Scalar.TheVariants.{Ptr}
+use Rattle.ds_ast.specs.declared.ty.Scalar.TheVariants.{I1, I8, I16, I32, I64, Ptr}
 use Rattle.ds_arith.specs.declared.fault.ArithFault.{ArithFault}
 use Rattle.ds_map.specs.Bounds.{Bounds, IsInRange}
 use Rattle.ds_map.specs.Blocks.{class_of, is_marked}
@@ -20,13 +20,17 @@ use Rattle.ds_plain.specs.declared.Stop.TheVariants.{Idle, Returned, Trap, Full,
 use Rattle.ds_plain.specs.declared.Stop.TheVariants as stops
 use Rattle.ds_plain.specs.declared.Request.{Request}
 use Rattle.ds_plain.specs.declared.Request.TheVariants as requests
-use Rattle.ds_plain.specs.declared.AccessAt.TheVariants.{StoreWord}
+use Rattle.ds_plain.specs.declared.AccessAt.{AccessAt}
+use Rattle.ds_plain.specs.declared.AccessAt.TheVariants.{StoreWord, CombineWord, ReplaceWord, LoadPart}
+use Rattle.ds_plain.specs.declared.Change.{Change}
+use Rattle.ds_plain.specs.declared.Change.TheVariants.{Put, Combine, Replace}
 use Rattle.ds_plain.specs.declared.Position.TheVariants.{NoRow, StoreEnded}
 use Rattle.ds_plain.specs.declared.Position.TheVariants as positions
 use Rattle.ds_plain.specs.Asking.{IsWithin, IsAskedWithin}
 use Rattle.ds_plain.specs.Behaviour.{Outcome, Goes, Wants, Stops, Stuck, Asked, Asks, Silent, asked_by, ask, one_more}
 use Rattle.ds_plain.specs.Behaviour.{behaviour}
 use Rattle.ds_plain.specs.Parts.{is_whole}
+use Rattle.ds_plain.specs.Accessing.{changing_at, IsAccessAt}
 use Rattle.ds_plain.specs.declared.FreeAt.TheVariants as freeing
 use Rattle.ds_plain.specs.Freeing.{is_freeable}
 use Rattle.ds_plain.specs.Reached.{AreCursors}
@@ -80,26 +84,72 @@ location_within lim address =
 
 -- ACCESSES
 
+-- the access is of bits of a word that is there
+record IsLocated (lim : Bounds) (access : Access) : Type 0 where
+  loc : access.loc < program_words lim
+  inside : access.shift + access.bits ≤ 64
+
 abbrev AccessWithin : Bounds → Option Access → Type 0
 AccessWithin lim None = Unit {0}
-AccessWithin lim (Some access) = access.loc < program_words lim
+AccessWithin lim (Some access) = IsLocated lim access
 
-mapped : (lim : Bounds) (shift bits : ℕ) (loc : Option ℕ) → LocWithin lim loc
+mapped : (lim : Bounds) (shift bits : ℕ) (loc : Option ℕ) → shift + bits ≤ 64 → LocWithin lim loc
     → AccessWithin lim (option_map (λ (loc : ℕ). record { loc = loc; shift = shift; bits = bits }) loc)
-mapped lim shift bits None h = tt
-mapped lim shift bits (Some loc) h = h
+mapped lim shift bits None inside h = tt
+mapped lim shift bits (Some loc) inside h = record { loc = h; inside = inside }
+
+-- a value at a multiple of its size ends within its word
+aligned : (ty : Scalar) (address : ℕ) → address % scalar_size ty ≡ 0 → 8 * (address % 8) + 8 * scalar_size ty ≤ 64
+aligned I1 address e = omega arith
+aligned I8 address e = omega arith
+aligned I16 address e = omega (arith, e)
+aligned I32 address e = omega (arith, e)
+aligned I64 address e = omega (arith, e)
+aligned Ptr address e = omega (arith, e)
 
 pub by_test : {A : Type 0} (P : A → Type 0) (b : Bool) (x y : A) → P x → P y → P (if b then x else y)
 by_test P true x y p q = p
 by_test P false x y p q = q
 
+access_by : (lim : Bounds) (ty : Scalar) (address : ℕ) (b : Bool) → (address % scalar_size ty == 0) ≡ b
+    → AccessWithin lim (if b then
+    option_map (λ (loc : ℕ). record { loc = loc; shift = 8 * (address % 8); bits = 8 * scalar_size ty })
+    (location_of lim address)
+    else None)
+access_by lim ty address true e =
+    mapped lim (8 * (address % 8)) (8 * scalar_size ty) (location_of lim address)
+    (aligned ty address (eqb-true (address % scalar_size ty) 0 e)) (location_within lim address)
+access_by lim ty address false e = tt
+
 access_within : (lim : Bounds) (ty : Scalar) (address : ℕ) → AccessWithin lim (access_at lim ty address)
-access_within lim ty address =
-    by_test (AccessWithin lim) (address % scalar_size ty == 0) _ _
-    (mapped lim (8 * (address % 8)) (8 * scalar_size ty) (location_of lim address) (location_within lim address)) tt
+access_within lim ty address = access_by lim ty address (address % scalar_size ty == 0) refl
+
+-- of bits that are not all those of a word there are fewer
+narrow : (shift bits : ℕ) (s b : Bool) → (shift == 0) ≡ s → (bits == 64) ≡ b → (s && b) ≡ false
+    → shift + bits ≤ 64 → bits < 64
+narrow shift bits true true is_s is_b e inside = absurd (cc (e))
+narrow shift bits true false is_s is_b e inside = grind (arith, nat_tests, is_b, inside)
+narrow shift bits false b is_s is_b e inside =
+    let some : 0 < shift = grind (arith, nat_tests, is_s) in
+    omega (arith, some, inside)
+
+changing_by : (lim : Bounds) (access : Access) (whole : AccessAt) (change : Change) (b : Bool) → is_whole access ≡ b
+    → IsLocated lim access → IsAccessAt lim whole → IsAccessAt lim (if b then whole else LoadPart access change)
+changing_by lim access whole change true e h reached = reached
+changing_by lim access whole change false e h reached = record {
+  loc = h.loc;
+  narrow = narrow access.shift access.bits (access.shift == 0) (access.bits == 64) refl refl e h.inside;
+  inside = h.inside;
+}
+
+-- a change of a word begins at a position that is reached
+changing : (lim : Bounds) (access : Access) (whole : AccessAt) (change : Change) → IsLocated lim access
+    → IsAccessAt lim whole → IsAccessAt lim (changing_at access whole change)
+changing lim access whole change h reached =
+    changing_by lim access whole change (is_whole access) refl h reached
 
 abbrev JudgedWithin : Bounds → Result Access TrapKind → Type 0
-JudgedWithin lim (Ok access) = access.loc < program_words lim
+JudgedWithin lim (Ok access) = IsLocated lim access
 JudgedWithin lim (Err kind) = Unit {0}
 
 judged_by_within : (lim : Bounds) (address : ℕ) (found : Option Access) → AccessWithin lim found
@@ -128,23 +178,21 @@ Fits lim Stuck = Unit {0}
 
 module _ (few : ClassesAreFew) (begins : MallocsBegin) (r : Running) (range : IsInRange r.lim) (q : Machine) (i : CodeInstr) where
   located_fits : (found : Result Access TrapKind) (go : Access → Outcome Machine) → JudgedWithin r.lim found
-      → ((access : Access) → access.loc < program_words r.lim → Fits r.lim (go access))
+      → ((access : Access) → IsLocated r.lim access → Fits r.lim (go access))
       → Fits r.lim (located q i found go)
   located_fits (Ok access) go h all = all access h
   located_fits (Err kind) go h all = tt
 
-  storing : (b : Bool) (loc value : ℕ) → loc < program_words r.lim
-      → IsWithin r.lim (if b then positions.Access (StoreWord loc value) else NoRow)
-  storing true loc value lt = lt
-  storing false loc value lt = tt
-
-  requested_within : (access : Access) (op : MemoryOp) → access.loc < program_words r.lim
+  requested_within : (access : Access) (op : MemoryOp) → IsLocated r.lim access
       → RequestWithin r.lim (requested q access op)
-  requested_within access (Load ty at) lt = λ cursors looks. lt
-  requested_within access (Store ty v at) lt =
-      λ cursors looks. storing (is_whole access) access.loc (value q ty v) lt
-  requested_within access (Rmw op at ty v) lt = λ cursors looks. tt
-  requested_within access (Cmpxchg at ty expected new exchanged) lt = λ cursors looks. tt
+  requested_within access (Load ty at) h = λ cursors looks. h.loc
+  requested_within access (Store ty v at) h = λ cursors looks.
+      changing r.lim access (StoreWord access.loc (value q ty v)) (Put (value q ty v)) h h.loc
+  requested_within access (Rmw op at ty v) h = λ cursors looks.
+      changing r.lim access (CombineWord access.loc op (value q ty v)) (Combine op (value q ty v)) h h.loc
+  requested_within access (Cmpxchg at ty expected new exchanged) h = λ cursors looks.
+      changing r.lim access (ReplaceWord access.loc (value q ty expected) (value q ty new))
+      (Replace (value q ty expected) (value q ty new)) h h.loc
 
   -- a malloc begins at a place of its class
   looking_within : (cursors : List ℕ) (class : Option ℕ) → AreCursors r.lim cursors
@@ -208,11 +256,11 @@ module _ (few : ClassesAreFew) (begins : MallocsBegin) (r : Running) (range : Is
   asks_fits (Print v) = λ cursors looks. tt
   asks_fits (Spawn at function argument) =
       located_fits (judged r.lim Ptr (input q at)) _ (judged_within r.lim Ptr (input q at))
-      (λ access lt. λ cursors looks. tt)
+      (λ access h. λ cursors looks. tt)
   asks_fits (Join thread) = λ cursors looks. tt
   asks_fits (Note at v) =
       located_fits (judged r.lim Ptr (value q Ptr at)) _ (judged_within r.lim Ptr (value q Ptr at))
-      (λ access lt. noted_fits access.loc (value q Ptr v))
+      (λ access h. noted_fits access.loc (value q Ptr v))
 
   allocates_fits : (words : ℕ) → Fits r.lim (allocates r q i words)
   allocates_fits words =
@@ -246,7 +294,7 @@ module _ (few : ClassesAreFew) (begins : MallocsBegin) (r : Running) (range : Is
   act_fits (Alloca size count) = allocates_fits (rounded (input q count * size) 8 / 8)
   act_fits (Memory op) =
       located_fits (judged r.lim (type_at op) (value q Ptr (address_in op))) _
-      (judged_within r.lim (type_at op) (value q Ptr (address_in op))) (λ access lt. requested_within access op lt)
+      (judged_within r.lim (type_at op) (value q Ptr (address_in op))) (λ access h. requested_within access op h)
   act_fits (External op) = asks_fits op
   act_fits Skip = tt
   act_fits (Call function arguments) = calls_fits function arguments (slice_get r.code.functions function)

@@ -4,15 +4,16 @@ ghost use Rattle.std.specs.Prelude.{◌≡◌, ◌+◌, ◌<◌, ◌≤◌, suc,
 ghost use Rattle.ds_map.specs.Words.{words};
 ghost use Rattle.ds_map.specs.Blocks.{block_start};
 ghost use Rattle.ds_plain.specs.declared.StartAt.TheVariants.{LoadStart};
-ghost use Rattle.ds_plain.specs.declared.Position.TheVariants.{Start, Malloc, Free};
+ghost use Rattle.ds_plain.specs.declared.Position.TheVariants.{Start, Access, Malloc, Free};
 ghost use Rattle.ds_plain.specs.Behaviour.{Behaviour, told};
 ghost use Rattle.ds_plain.specs.Asking.{IsWithin};
+ghost use Rattle.ds_plain.specs.Accessing.{access_next, IsAccessAt};
 ghost use Rattle.ds_plain.specs.Searching.{alloc_next, place_behind};
 ghost use Rattle.ds_plain.specs.Freeing.{free_next};
 ghost use Rattle.ds_plain.specs.Reached.{AreCursors, IsPlace, IsAllocAt, IsFreeAt};
 ghost use Rattle.ds_plain.specs.Table.{op_at, is_over, begins};
-ghost use Rattle.ds_plain.specs.Thread.{first_thread, going_on, moved, moved_from_malloc, moved_from_free};
-ghost use Rattle.ds_plain.specs.Thread.{freed_address, trap_kind, stop_at};
+ghost use Rattle.ds_plain.specs.Thread.{first_thread, going_on, moved, moved_from_access, moved_from_malloc};
+ghost use Rattle.ds_plain.specs.Thread.{moved_from_free, freed_address, trap_kind, stop_at};
 ghost use Rattle.ds_plain.specs.Thread as threads;
 ghost use Rattle.ds_alloc_laws.specs.Laws.{class_at};
 ghost use Rattle.ds_code.specs.CodeProgram.{program_of, behaves};
@@ -25,6 +26,7 @@ use crate::cursors::Cursors;
 use crate::outcome::{Turn, turn_by};
 use crate::place::{position_by, stands_at};
 use crate::table::{op_of, step_of};
+use ds_access::AccessWalk;
 use ds_alloc::{AllocOutcome, AllocWalk, place_behind};
 use ds_alloc_laws::{classes_are_few, cursors_begin, cursors_move, mallocs_begin, mallocs_look_on};
 use ds_code::Code;
@@ -103,6 +105,20 @@ fn wait(limits: &Limits, cursors: &Cursors, thread: &mut Thread) -> Position
 {
     thread.spend();
     position_by(limits, cursors, thread)
+}
+
+/// Makes a thread go on with its change of a part of a word, and answers where it then stands.
+fn change_on(limits: &Limits, thread: &mut Thread, at: AccessAt) -> Position
+    requires lim { thread.old.lim ≡ limits.now }
+    requires reached { IsAccessAt limits.now at }
+    requires pays { thread.old.units < limits.now.fuel }
+    ensures thread { thread.new ≡ record thread.old { units = thread.old.units + 1 } }
+    ensures position { result ≡ stands_at limits.now (thread.old.units + 1) (Access at) }
+    ensures within { IsWithin limits.now result }
+    ensures pays { Pays limits.now.fuel thread.new.units thread.new.want result }
+{
+    thread.spend();
+    stands_at(limits, thread.units(), Position::Access(at))
 }
 
 /// Makes a thread go on with its malloc, and answers where it then stands.
@@ -304,6 +320,26 @@ impl Actor {
         self.position = resume(code, &self.limits, &self.cursors, &mut self.thread, start);
     }
 
+    /// Goes on with its access to program memory, by the answer to its step.
+    fn access_on(&mut self, code: &Code, at: AccessAt, old: u64)
+        requires at { self.old.position ≡ Access at }
+        requires row { code.now.row ≤ self.old.thread.row }
+        ensures stands { (a : threads.Thread) → IsAt code.now self.old a → IsAt code.now self.new
+            (moved_from_access self.old.thread.lim a (access_next at old)) }
+        ensures same { IsSame self.old.thread self.new.thread }
+    {
+        let mut walk = AccessWalk::at(at, &self.limits);
+        walk.answer(old);
+        if let Some(next) = walk.position() {
+            self.position = change_on(&self.limits, &mut self.thread, next);
+            return;
+        }
+        match walk.outcome() {
+            Some(answer) => self.resumed(code, answer),
+            None => unreachable!(),
+        }
+    }
+
     /// Goes on with its malloc, by the answer to its step.
     fn malloc_on(&mut self, code: &Code, at: AllocAt, old: u64)
         requires at { self.old.position ≡ Malloc at }
@@ -363,8 +399,7 @@ impl Actor {
     {
         match self.position {
             Position::Start(StartAt::LoadStart) => self.start(code, old),
-            Position::Access(AccessAt::LoadWord { loc: _ }) => self.resumed(code, old),
-            Position::Access(AccessAt::StoreWord { loc: _, value: _ }) => self.resumed(code, 0),
+            Position::Access(at) => self.access_on(code, at, old),
             Position::Malloc(at) => self.malloc_on(code, at, old),
             Position::Free(at) => self.freed_on(code, at, old),
             Position::DrawPrint { value: _ } => self.resumed(code, 0),

@@ -2,10 +2,9 @@
 
 ghost use Rattle.std.specs.Prelude.{◌≡◌, ◌<◌, nat_lt, if◌then◌else◌, IfSome};
 ghost use Rattle.ds_plain.specs.declared.Stop.TheVariants.{Fuel};
-ghost use Rattle.ds_plain.specs.declared.AccessAt.TheVariants.{StoreWord};
-ghost use Rattle.ds_plain.specs.declared.Position.TheVariants.{StoreEnded, NoRow};
-ghost use Rattle.ds_plain.specs.declared.Position.TheVariants as positions;
+ghost use Rattle.ds_plain.specs.declared.Position.TheVariants.{StoreEnded};
 ghost use Rattle.ds_plain.specs.Parts.{is_whole};
+ghost use Rattle.ds_plain.specs.Accessing.{changing_at};
 ghost use Rattle.ds_plain.specs.Freeing.{is_freeable};
 ghost use Rattle.ds_plain.specs.Searching.{search_from};
 ghost use Rattle.ds_plain.specs.Table.{position_of, looking_for, freeing_at, end_by};
@@ -15,7 +14,9 @@ use crate::cursors::Cursors;
 use ds_class::class_of;
 use ds_frame::{Thread, Want};
 use ds_map::Limits;
-use ds_plain::{Access, AccessAt, AllocAt, FreeAt, Position, Request, Search, StartAt, Stop};
+use ds_plain::{
+    Access, AccessAt, AllocAt, Change, FreeAt, Position, Request, Search, StartAt, Stop,
+};
 
 /// The address of the heap's first byte.
 const HEAP_START: u64 = 0x100_0000;
@@ -33,17 +34,14 @@ fn is_whole(access: Access) -> bool
     access.shift == 0 && access.bits == 64
 }
 
-/// The position of a store.
-fn store_at(access: Access, value: u64) -> Position
-    ensures { result ≡ (if is_whole access then positions.Access (StoreWord access.loc value) else NoRow) }
+/// Where a change of a word begins: at this position where it is one of the whole word, and else with a load.
+fn changing_at(access: Access, whole: AccessAt, change: Change) -> AccessAt
+    ensures { result ≡ changing_at access whole change }
 {
     if is_whole(access) {
-        Position::Access(AccessAt::StoreWord {
-            loc: access.loc,
-            value,
-        })
+        whole
     } else {
-        Position::NoRow
+        AccessAt::LoadPart { access, change }
     }
 }
 
@@ -112,13 +110,25 @@ fn position_of(limits: &Limits, cursors: &Cursors, request: Request) -> Position
 {
     match request {
         Request::Load(access) => Position::Access(AccessAt::LoadWord { loc: access.loc }),
-        Request::Store(access, value) => store_at(access, value),
-        Request::Rmw(_, _, _) => Position::NoRow,
+        Request::Store(access, value) => {
+            let loc = access.loc;
+            let whole = AccessAt::StoreWord { loc, value };
+            Position::Access(changing_at(access, whole, Change::Put(value)))
+        }
+        Request::Rmw(access, op, value) => {
+            let loc = access.loc;
+            let whole = AccessAt::CombineWord { loc, op, value };
+            Position::Access(changing_at(access, whole, Change::Combine(op, value)))
+        }
         Request::Cas {
-            access: _,
-            expected: _,
-            new: _,
-        } => Position::NoRow,
+            access,
+            expected,
+            new,
+        } => {
+            let loc = access.loc;
+            let whole = AccessAt::ReplaceWord { loc, expected, new };
+            Position::Access(changing_at(access, whole, Change::Replace { expected, new }))
+        }
         Request::Malloc(bytes) => looking_for(cursors, class_of(bytes)),
         Request::Free(address) => freeing_at(limits, address),
         Request::Note { loc: _, value: _ } => Position::NoRow,

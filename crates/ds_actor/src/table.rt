@@ -1,17 +1,19 @@
 //! The step table as code: the step of each position.
 
 ghost use Rattle.std.specs.Prelude.{◌≡◌, ◌<◌};
-ghost use Rattle.ds_map.specs.Regions.{program_words};
 ghost use Rattle.ds_map.specs.Words.{control_words, words};
 ghost use Rattle.ds_plain.specs.Table.{op_at, row_at, event_at, start_word, start_op, start_row, start_event};
-ghost use Rattle.ds_plain.specs.Table.{access_op, access_row, access_event, load_of, store_of, step_at};
-ghost use Rattle.ds_plain.specs.Asking.{IsWithin, loc_of};
+ghost use Rattle.ds_plain.specs.Table.{step_at};
+ghost use Rattle.ds_plain.specs.Operations.{load_of, store_of};
+ghost use Rattle.ds_plain.specs.Accessing.{access_row, access_event, IsAccessAt};
+ghost use Rattle.ds_plain.specs.Asking.{IsWithin};
 ghost use Rattle.ds_plain.specs.Freeing.{free_row, free_event};
 ghost use Rattle.ds_plain.specs.Reached.{IsAllocAt, IsFreeAt};
 ghost use Rattle.ds_plain.specs.Searching.{alloc_row, alloc_event};
 
+use ds_access::AccessWalk;
 use ds_alloc::AllocWalk;
-use ds_map::{Limits, word_of};
+use ds_map::Limits;
 use ds_mark::FreeWalk;
 use ds_plain::{AccessAt, AllocAt, FreeAt, Position, StartAt};
 use ds_step::{Event, OpKind, Step, WordOp};
@@ -68,18 +70,6 @@ fn start_op_of(thread: u8, at: StartAt) -> WordOp
     }
 }
 
-/// The operation that a thread makes on program memory.
-fn access_op_of(limits: &Limits, at: AccessAt) -> WordOp
-    requires { loc_of at < program_words limits.now }
-    ensures op { result ≡ access_op limits.now at }
-    ensures word { result.word < words limits.now }
-{
-    match at {
-        AccessAt::LoadWord { loc } => load(word_of(limits, loc)),
-        AccessAt::StoreWord { loc, value } => store(word_of(limits, loc), value),
-    }
-}
-
 /// The operation that a thread makes at a position.
 pub fn op_of(limits: &Limits, thread: u8, position: Position) -> WordOp
     requires thread { thread < 16 }
@@ -90,7 +80,7 @@ pub fn op_of(limits: &Limits, thread: u8, position: Position) -> WordOp
     let _pages = limits.pages();
     match position {
         Position::Start(at) => start_op_of(thread, at),
-        Position::Access(at) => access_op_of(limits, at),
+        Position::Access(at) => AccessWalk::at(at, limits).op(),
         Position::Malloc(at) => AllocWalk::at(at, limits).op(),
         Position::Free(at) => FreeWalk::at(at, limits).op(),
         Position::DrawPrint { value: _ } => WordOp {
@@ -118,15 +108,15 @@ fn start_meaning_of(thread: u8, at: StartAt, old: u64) -> (u8, Event)
     }
 }
 
-/// The number of a row on program memory, and what the answer means there.
-fn access_meaning_of(at: AccessAt, old: u64) -> (u8, Event)
+/// The number of a row of an access to program memory, and what the answer means there.
+fn access_meaning_of(limits: &Limits, at: AccessAt, old: u64) -> (u8, Event)
+    requires { IsAccessAt limits.now at }
     ensures row { result.0 ≡ access_row at }
     ensures event { result.1 ≡ access_event at old }
 {
-    match at {
-        AccessAt::LoadWord { loc } => (14, Event::Load { loc, value: old }),
-        AccessAt::StoreWord { loc, value } => (15, Event::Store { loc, value }),
-    }
+    let mut walk = AccessWalk::at(at, limits);
+    let row = walk.row();
+    (row, walk.answer(old))
 }
 
 /// The number of a row of a malloc, and what the answer means there.
@@ -159,7 +149,7 @@ fn meaning_of(limits: &Limits, thread: u8, position: Position, old: u64) -> (u8,
 {
     match position {
         Position::Start(at) => start_meaning_of(thread, at, old),
-        Position::Access(at) => access_meaning_of(at, old),
+        Position::Access(at) => access_meaning_of(limits, at, old),
         Position::Malloc(at) => alloc_meaning_of(limits, at, old),
         Position::Free(at) => free_meaning_of(limits, at, old),
         Position::DrawPrint { value } => (13, Event::Print { number: old, value }),

@@ -8,27 +8,25 @@ use Rattle.ds_map.specs.Blocks.{class_of, block_start}
 use Rattle.ds_step.specs.declared.Event.TheVariants as events
 use Rattle.ds_plain.specs.declared.Stop.{Stop}
 use Rattle.ds_plain.specs.declared.Stop.TheVariants.{Idle, Running, Returned, Trap, Full, Fuel}
-use Rattle.ds_plain.specs.declared.Access.{Access as Accesses}
 use Rattle.ds_plain.specs.declared.Request.{Request}
 use Rattle.ds_plain.specs.declared.Request.TheVariants as requests
 use Rattle.ds_plain.specs.declared.StartAt.TheVariants.{LoadStart}
-use Rattle.ds_plain.specs.declared.AccessAt.TheVariants.{LoadWord, StoreWord}
 use Rattle.ds_plain.specs.declared.Position.{Position}
 use Rattle.ds_plain.specs.declared.Position.TheVariants.{Start, Access, Malloc, Free, DrawPrint, StoreEnded, Over, NoRow}
 use Rattle.ds_plain.specs.Behaviour.{Asked, Asks, Silent, Behaviour, place_in_text, told, Program}
-use Rattle.ds_plain.specs.Parts.{is_whole}
 use Rattle.ds_plain.specs.declared.FreeAt.TheVariants as frees
 use Rattle.ds_plain.specs.Plain.{trap_stop}
+use Rattle.ds_plain.specs.Accessing.{AccessNext, AccessesOn, Tells, access_next}
 use Rattle.ds_plain.specs.Searching.{AllocNext, Looks, Takes, TakesNone, place_behind, alloc_next}
 use Rattle.ds_plain.specs.Freeing.{FreeNext, FreesOn, Freed, FailsFree, free_next, is_freeable}
 use Rattle.ds_plain.specs.Table.{begins, looking_for, position_of, is_over, step_at, end_by}
-use Rattle.ds_plain.specs.Thread.{Thread, paying, standing, arriving, going_on, moved_from_malloc, moved_from_free}
-use Rattle.ds_plain.specs.Thread.{freed_address, trap_kind, moved, first_cursors, first_thread}
+use Rattle.ds_plain.specs.Thread.{Thread, paying, standing, arriving, going_on, moved_from_access, moved_from_malloc}
+use Rattle.ds_plain.specs.Thread.{moved_from_free, freed_address, trap_kind, moved, first_cursors, first_thread}
 use Rattle.ds_plain.specs.Turns.{passing_of, ends_thread, is_end}
 use Rattle.ds_plain.specs.Asking.{has_row, AsksRows, HasRows}
 use Rattle.ds_plain.specs.Explained.{HasEnded}
 use Rattle.ds_core.specs.Fits.{FitsAt, Fits, steps_left}
-use Rattle.ds_core.proofs.Passing.{malloc_goes_on, free_goes_on}
+use Rattle.ds_core.proofs.Passing.{access_goes_on, malloc_goes_on, free_goes_on}
 
 -- a thread has come so far, with at least these units spent
 record Comes (lim : Bounds) (units : ℕ) (behaves : Behaviour) (a : Thread) : Type 0 where
@@ -93,12 +91,6 @@ stop_ends (Trap trap) row = tt
 stop_ends (Full place what) row = cc
 stop_ends Fuel row = cc
 
-store_ends : (b : Bool) (access : Accesses) (value : ℕ)
-    → not (is_over (if b then Access (StoreWord access.loc value) else NoRow)) ≡ true
-    → EndsWell (if b then Access (StoreWord access.loc value) else NoRow)
-store_ends true access value row = tt
-store_ends false access value row = cc
-
 malloc_ends : (cursors : List ℕ) (class : Option ℕ) → not (is_over (looking_for cursors class)) ≡ true
     → EndsWell (looking_for cursors class)
 malloc_ends cursors None row = cc
@@ -112,9 +104,9 @@ free_ends false address row = cc
 request_ends : (lim : Bounds) (cursors : List ℕ) (request : Request)
     → not (is_over (position_of lim cursors request)) ≡ true → EndsWell (position_of lim cursors request)
 request_ends lim cursors (requests.Load access) row = tt
-request_ends lim cursors (requests.Store access value) row = store_ends (is_whole access) access value row
-request_ends lim cursors (requests.Rmw access op value) row = cc
-request_ends lim cursors (requests.Cas access expected new) row = cc
+request_ends lim cursors (requests.Store access value) row = tt
+request_ends lim cursors (requests.Rmw access op value) row = tt
+request_ends lim cursors (requests.Cas access expected new) row = tt
 request_ends lim cursors (requests.Malloc bytes) row = malloc_ends cursors (class_of bytes) row
 request_ends lim cursors (requests.Free address) row = free_ends (is_freeable lim address) address row
 request_ends lim cursors (requests.Note loc value) row = cc
@@ -171,6 +163,14 @@ starts program lim cursors t units behaves began false rows paid asks =
     comes_nearer lim units behaves _ paid asks
     (standing_comes lim cursors behaves (units + 1) began (Start LoadStart) (omega (arith, paid)) tt)
 
+-- an access goes on, or is told an answer; no event of it is an end
+access_moves : (lim : Bounds) (a : Thread) (next : AccessNext) → a.units < lim.fuel → AsksRows lim a.rest
+    → Moves lim false (suc (lim.fuel - a.units)) (moved_from_access lim a next)
+access_moves lim a (AccessesOn at) paid asks =
+    comes_nearer lim a.units a.rest _ paid asks
+    (standing_comes lim a.cursors a.rest (a.units + 1) a.began (Access at) (omega (arith, paid)) tt)
+access_moves lim a (Tells answer) paid asks = told_nearer lim a.cursors a.units answer a.rest paid asks
+
 -- a malloc goes on, or is told an answer; no event of it is an end
 malloc_moves : (lim : Bounds) (a : Thread) (next : AllocNext) → a.units < lim.fuel → AsksRows lim a.rest
     → Moves lim false (suc (lim.fuel - a.units)) (moved_from_malloc lim a next)
@@ -199,10 +199,11 @@ moves_from : (program : Program) (lim : Bounds) (t : ℕ) (behaves : Behaviour) 
     (record { rest = behaves; position = p; units = units; began = began; cursors = cursors }) old)
 moves_from program lim t behaves (Start LoadStart) units began cursors old rows fits asks =
     starts program lim cursors t units behaves began (begins t old) rows fits.1 asks
-moves_from program lim t behaves (Access (LoadWord loc)) units began cursors old rows fits asks =
-    told_nearer lim cursors units old behaves fits.1 asks
-moves_from program lim t behaves (Access (StoreWord loc value)) units began cursors old rows fits asks =
-    told_nearer lim cursors units 0 behaves fits.1 asks
+moves_from program lim t behaves (Access at) units began cursors old rows fits asks =
+    let a : Thread =
+    record { rest = behaves; position = Access at; units = units; began = began; cursors = cursors } in
+    subst (λ b. Moves lim b (suc (lim.fuel - units)) (moved_from_access lim a (access_next at old)))
+    (sym (access_goes_on at old)) (access_moves lim a (access_next at old) fits.1 asks)
 moves_from program lim t behaves (Malloc at) units began cursors old rows fits asks =
     let a : Thread =
     record { rest = behaves; position = Malloc at; units = units; began = began; cursors = cursors } in

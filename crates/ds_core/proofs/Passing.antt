@@ -1,13 +1,18 @@
--- The events of a malloc and of a free give out no thread and end none.
+-- The events of an access, of a malloc and of a free give out no thread and end none.
 use Rattle.std.proofs.Common.{◌≡◌, ℕ, ◌==◌, false, refl, ap}
 use Rattle.std.proofs.lemmas.Bool.{cond_both}
 use Rattle.ds_map.specs.Bounds.{Bounds}
 use Rattle.ds_step.specs.declared.Event.{Event}
+use Rattle.ds_plain.specs.declared.Access.{Access}
+use Rattle.ds_plain.specs.declared.Change.{Change}
+use Rattle.ds_plain.specs.declared.AccessAt.{AccessAt}
+use Rattle.ds_plain.specs.declared.AccessAt.TheVariants as accesses
 use Rattle.ds_plain.specs.declared.Search.{Search}
 use Rattle.ds_plain.specs.declared.AllocAt.{AllocAt}
 use Rattle.ds_plain.specs.declared.AllocAt.TheVariants as allocs
 use Rattle.ds_plain.specs.declared.FreeAt.{FreeAt}
 use Rattle.ds_plain.specs.declared.FreeAt.TheVariants as frees
+use Rattle.ds_plain.specs.Accessing.{is_refused, part_seen, access_event}
 use Rattle.ds_plain.specs.Searching.{PageSeen, Unsized, Wanted, Other, NoPageWord, page_seen, page_loaded, page_swapped}
 use Rattle.ds_plain.specs.Searching.{BlockSeen, Unused, Used, NoBlockWord, block_seen, block_loaded, block_swapped}
 use Rattle.ds_plain.specs.Searching.{alloc_event}
@@ -19,6 +24,22 @@ use Rattle.ds_plain.specs.Turns.{Neither, passing_of, ends_thread}
 -- the event gives out no thread and ends none
 abbrev Passes : Event → Type 0
 Passes event = passing_of event ≡ Neither
+
+part_passes : (access : Access) (change : Change) (word : ℕ) → Passes (part_seen access change word)
+part_passes access change word = cond_both (is_refused access change word) _ _ Passes (λ e. refl) (λ e. refl)
+
+pub access_passes : (at : AccessAt) (old : ℕ) → Passes (access_event at old)
+access_passes (accesses.LoadWord loc) old = refl
+access_passes (accesses.StoreWord loc value) old = refl
+access_passes (accesses.CombineWord loc op value) old = refl
+access_passes (accesses.ReplaceWord loc expected new) old =
+    cond_both (old == expected) _ _ Passes (λ e. refl) (λ e. refl)
+access_passes (accesses.LoadPart access change) old = part_passes access change old
+access_passes (accesses.SwapPart access change seen) old =
+    cond_both (old == seen) _ _ Passes (λ e. refl) (λ e. part_passes access change old)
+
+pub access_goes_on : (at : AccessAt) (old : ℕ) → ends_thread (passing_of (access_event at old)) ≡ false
+access_goes_on at old = ap ends_thread (access_passes at old)
 
 module _ (lim : Bounds) where
   load_page_passes : (search : Search) (seen : PageSeen) → Passes (page_loaded lim search seen)

@@ -14,7 +14,6 @@ use Rattle.ds_step.specs.declared.Step.{Step}
 use Rattle.ds_step.specs.Word.{words_after, answer_on}
 use Rattle.ds_plain.specs.declared.Cue.{Cue}
 use Rattle.ds_plain.specs.declared.StartAt.TheVariants.{LoadStart}
-use Rattle.ds_plain.specs.declared.AccessAt.TheVariants.{LoadWord, StoreWord}
 use Rattle.ds_plain.specs.declared.Position.{Position}
 use Rattle.ds_plain.specs.declared.Position.TheVariants.{Start, Access, Malloc, Free, DrawPrint, StoreEnded, Over, NoRow}
 use Rattle.ds_plain.specs.State.{replaced}
@@ -33,7 +32,7 @@ use Rattle.ds_actor.specs.Actors.{ActorState, IsAt, IsSame, waiting, turn_by, tu
 use Rattle.ds_schedule.specs.Standing.{Standing, StandsAt, main_has_ended}
 use Rattle.ds_core.specs.Fits.{Fits, steps_left}
 use Rattle.ds_core.specs.Standing.{IsActor, Runs, main_left, left_of}
-use Rattle.ds_core.proofs.Passing.{malloc_passes, free_passes}
+use Rattle.ds_core.proofs.Passing.{access_passes, malloc_passes, free_passes}
 use Rattle.ds_core.proofs.Moves.{Moves, moves, goes}
 
 -- SCHEDULES
@@ -61,8 +60,7 @@ gives_none : (lim : Bounds) (t : ℕ) (p : Position) (old given : ℕ) → given
 gives_none lim t (Start LoadStart) old given =
     cond_both (begins t old) _ _ (λ (event : Event). given_behind (passing_of event) given ≡ given) (λ e. refl)
     (λ e. refl)
-gives_none lim t (Access (LoadWord loc)) old given = refl
-gives_none lim t (Access (StoreWord loc value)) old given = refl
+gives_none lim t (Access at) old given = ap (λ (p : Passing). given_behind p given) (access_passes at old)
 gives_none lim t (Malloc at) old given = ap (λ (p : Passing). given_behind p given) (malloc_passes lim at old)
 gives_none lim t (Free at) old given = ap (λ (p : Passing). given_behind p given) (free_passes at old)
 gives_none lim t (DrawPrint value) old given = refl

@@ -1,15 +1,15 @@
 -- What comes of an instruction of the form: what it asks has a row, and no note follows.
-use Rattle.std.proofs.Common.{◌≡◌, ℕ, ◌+◌, ◌*◌, ◌%◌, Bool, true, false, ◌==◌, ◌&&◌, if◌then◌else◌}
+use Rattle.std.proofs.Common.{◌≡◌, ℕ, ◌+◌, ◌*◌, Bool, true, false, ◌==◌, if◌then◌else◌}
 use Rattle.std.proofs.Common.{not, suc, nat_le, nat_lt, List, [], ◌∷◌, ◌++◌, Option, Some, None, slice_get}
-use Rattle.std.proofs.Common.{refl, ap, sym, subst, arith, inl, inr}
+use Rattle.std.proofs.Common.{refl, sym, subst, arith, inl, inr}
 use Rattle.std.proofs.lemmas.Bool.Decides.{nat_tests}
 use Rattle.std.specs.Prelude.{Result, Ok, Err}
-use Rattle.std.specs.Option.{option_map}
 use Rattle.ds_ast.specs.declared.name.Name.{Name}
 use Rattle.ds_ast.specs.declared.ty.Scalar.{Scalar}
 use Rattle.ds_ast.specs.declared.ty.Scalar.TheVariants.{I1, Ptr}
 use Rattle.ds_ast.specs.declared.ty.Ty.{Ty}
 use Rattle.ds_ast.specs.declared.value.Value.{Value}
+use Rattle.ds_ast.specs.declared.words.RmwOp.{RmwOp}
 use Rattle.ds_ast.specs.declared.operand.Operand.{Operand}
 use Rattle.ds_ast.specs.declared.instr.Op.{Op}
 use Rattle.ds_ast.specs.declared.instr.Op.TheVariants.{Bin, Icmp, Select, Cast, Alloca, Load, Store, Gep, Call, Phi}
@@ -23,11 +23,9 @@ use Rattle.ds_arith.specs.declared.fault.ArithFault.{ArithFault}
 use Rattle.ds_arith.specs.Operations.{outcome}
 use Rattle.ds_map.specs.Bounds.{Bounds}
 use Rattle.ds_map.specs.Blocks.{is_marked, first_above}
-use Rattle.ds_map.specs.Regions.{stack, location_of}
+use Rattle.ds_map.specs.Regions.{stack}
 use Rattle.ds_shape.specs.Site.{function_number}
-use Rattle.ds_shape.specs.Sizes.{scalar_size}
 use Rattle.ds_plain.specs.declared.Access.{Access}
-use Rattle.ds_plain.specs.declared.AccessAt.TheVariants.{StoreWord}
 use Rattle.ds_plain.specs.declared.FreeAt.TheVariants.{LoadPage}
 use Rattle.ds_plain.specs.declared.Position.TheVariants as positions
 use Rattle.ds_plain.specs.declared.Position.TheVariants.{NoRow}
@@ -35,13 +33,13 @@ use Rattle.ds_plain.specs.declared.TrapKind.TheVariants as kinds
 use Rattle.ds_plain.specs.declared.Request.TheVariants as requests
 use Rattle.ds_plain.specs.Asking.{has_row}
 use Rattle.ds_plain.specs.Behaviour.{Asks, Outcome, Goes, Wants, Stops, Stuck}
-use Rattle.ds_plain.specs.Parts.{is_whole}
 use Rattle.ds_plain.specs.Freeing.{is_freeable}
 use Rattle.ds_plain.specs.Table.{looking_for, position_of, is_over}
-use Rattle.ds_meaning.specs.Values.{Values}
-use Rattle.ds_meaning.specs.Frames.{Context, Caller, State, Runs, Notes, TooLarge, first_frame, has_room}
+use Rattle.ds_meaning.specs.Values.{Values, part_in}
+use Rattle.ds_meaning.specs.Frames.{Context, Frame, Caller, State, Runs, Notes, TooLarge, first_frame, has_room}
 use Rattle.ds_meaning.specs.Steps.{Current, given, given_by, behind, on, with_result, results, traps}
-use Rattle.ds_meaning.specs.Memory.{located, located_by, access_at, allocates, words_for, offset_by}
+use Rattle.ds_meaning.specs.Memory.{located, located_by, access_at, is_exchange, after_store, after_rmw}
+use Rattle.ds_meaning.specs.Memory.{allocates, words_for, offset_by}
 use Rattle.ds_meaning.specs.Control.{arrives, goes_to, case_for, waiting, enters, arguments}
 use Rattle.ds_meaning.specs.Control.{ReturnValue, returns}
 use Rattle.ds_meaning.specs.Callees.{External, Malloc, Free, PrintI64, PthreadCreate, PthreadJoin, DsNote}
@@ -50,7 +48,7 @@ use Rattle.ds_meaning.specs.Callees.{externals, external_among, callee_of, calle
 use Rattle.ds_meaning.specs.Calls.{mallocs, frees, one_of, asks, calls}
 use Rattle.ds_meaning.specs.Meaning.{computes, act}
 use Rattle.ds_meaning.specs.Program.{context}
-use Rattle.ds_form.specs.Form.{FillsWord, IsOpInForm, IsExternalInForm, IsDeclaredInForm, IsFunctionInForm, IsInForm}
+use Rattle.ds_form.specs.Form.{IsExternalInForm, IsFunctionInForm, IsInForm}
 use Rattle.ds_form.proofs.Lists.{item_has}
 
 -- no note begins
@@ -67,25 +65,7 @@ Fits lim cursors (Wants place request answered) =
 Fits lim cursors (Stops place stop) = has_row lim cursors (Asks 1 place (requests.Stop stop)) ≡ true
 Fits lim cursors Stuck = Unit {0}
 
--- a type that fills a word has 8 bytes
-eight : (ty : Scalar) → FillsWord ty → scalar_size ty ≡ 8
-eight ty (inl e) = ap scalar_size e
-eight ty (inr e) = ap scalar_size e
-
--- the access has shift 0 and 64 bits
-whole : (rest size : ℕ) → (rest == 0) ≡ true → size ≡ 8 → ((8 * rest == 0) && (8 * size == 64)) ≡ true
-whole rest size e same =
-    let none : rest ≡ 0 = grind (arith, e) in
-    subst (λ n. ((8 * n == 0) && (8 * size == 64)) ≡ true) (sym none)
-    (subst (λ n. ((8 * 0 == 0) && (8 * n == 64)) ≡ true) (sym same) refl)
-
--- a store of a whole word has a row
-store_row : (lim : Bounds) (cursors : List ℕ) (access : Access) (value : ℕ) → is_whole access ≡ true
-    → not (is_over (position_of lim cursors (requests.Store access value))) ≡ true
-store_row lim cursors access value e =
-    subst (λ t. not (is_over (if t then positions.Access (StoreWord access.loc value) else NoRow)) ≡ true) (sym e) refl
-
--- so has a malloc, since the last size is more than 4,095 bytes
+-- a malloc has a row, since the last size is more than 4,095 bytes
 malloc_row : (lim : Bounds) (cursors : List ℕ) (bytes : ℕ) → nat_lt 4095 bytes ≡ false
     → not (is_over (position_of lim cursors (requests.Malloc bytes))) ≡ true
 malloc_row lim cursors bytes few =
@@ -108,7 +88,7 @@ malloc_row lim cursors bytes few =
         by_test true rec = refl
         by_test false rec = rec
 
--- and a free of an address that is tested
+-- so has a free of an address that is tested
 free_row : (lim : Bounds) (cursors : List ℕ) (address : ℕ) → is_freeable lim address ≡ true
     → not (is_over (position_of lim cursors (requests.Free address))) ≡ true
 free_row lim cursors address e =
@@ -129,28 +109,26 @@ module _ (m : Module) (lim : Bounds) (cursors : List ℕ) (thread : ℕ) (s : Cu
       → Fits lim cursors (given c s ty v go)
   given_fits ty v go h = given_by_fits _ go h
 
-  located_fits : (ty : Scalar) (a : ℕ) (go : Access → Outcome State) → FillsWord ty
-      → ((access : Access) → is_whole access ≡ true → Fits lim cursors (go access))
-      → Fits lim cursors (located c s ty a go)
-  located_fits ty a go fills h = by_mark (is_marked a)
+  located_fits : (ty : Scalar) (a : ℕ) (go : Access → Outcome State)
+      → ((access : Access) → Fits lim cursors (go access)) → Fits lim cursors (located c s ty a go)
+  located_fits ty a go h = by_mark (is_marked a)
     where
-      by_place : (size : ℕ) → size ≡ 8 → (a % size == 0) ≡ true → (o : Option ℕ)
-          → Fits lim cursors (located_by s a (option_map (λ (loc : ℕ).
-          record { loc = loc; shift = 8 * (a % 8); bits = 8 * size }) o) go)
-      by_place size same even None = refl
-      by_place size same even (Some loc) =
-          h _ (whole (a % 8) size (subst (λ n. (a % n == 0) ≡ true) same even) same)
-
-      by_size : (size : ℕ) → size ≡ 8 → (o : Option ℕ) → (t : Bool) → (a % size == 0) ≡ t
-          → Fits lim cursors (located_by s a (if t then option_map (λ (loc : ℕ).
-          record { loc = loc; shift = 8 * (a % 8); bits = 8 * size }) o else None) go)
-      by_size size same o true even = by_place size same even o
-      by_size size same o false even = refl
+      by_place : (o : Option Access) → Fits lim cursors (located_by s a o go)
+      by_place None = refl
+      by_place (Some access) = h access
 
       by_mark : (t : Bool)
           → Fits lim cursors (if t then traps s (kinds.UseAfterFree a) else located_by s a (access_at c.lim ty a) go)
       by_mark true = refl
-      by_mark false = by_size (scalar_size ty) (eight ty fills) (location_of lim a) (a % scalar_size ty == 0) refl
+      by_mark false = by_place (access_at c.lim ty a)
+
+  -- no note follows an atomicrmw
+  rmw_notes : (op : RmwOp) (ty : Scalar) (at value : Value) (fr : Frame) → NoNote (after_rmw c s op ty at value fr)
+  rmw_notes op ty at value fr = by_test (is_exchange op)
+    where
+      by_test : (t : Bool) → NoNote (if t then after_store c s ty at value fr else behind s fr)
+      by_test true = tt
+      by_test false = tt
 
   computes_fits : (o : Result ℕ ArithFault) → Fits lim cursors (computes s o)
   computes_fits (Ok n) = tt
@@ -277,14 +255,14 @@ module _ (m : Module) (lim : Bounds) (cursors : List ℕ) (thread : ℕ) (s : Cu
   calls_served : IsInForm m → (name : Name) → CallsServed (callee_of m name)
   calls_served form name = by_number (function_number m name)
     where
-      by_blocks : (n : ℕ) (f : Function) → IsDeclaredInForm f → (bs : List Block) → f.blocks ≡ bs
+      by_blocks : (n : ℕ) (f : Function) → IsFunctionInForm f → (bs : List Block) → f.blocks ≡ bs
           → CallsServed (callee_by n f bs)
       by_blocks n f h [] e = served f.name (h e)
       by_blocks n f h (b ∷ bs) e = tt
 
       by_function : (n : ℕ) (o : Option Function) → slice_get m.functions n ≡ o → CallsServed (callee_at n o)
       by_function n None e = tt
-      by_function n (Some f) e = by_blocks n f (item_has IsFunctionInForm m.functions n f e form).0 f.blocks refl
+      by_function n (Some f) e = by_blocks n f (item_has IsFunctionInForm m.functions n f e form) f.blocks refl
 
       by_number : (o : Option ℕ) → CallsServed (callee_numbered m o)
       by_number None = tt
@@ -300,31 +278,33 @@ module _ (m : Module) (lim : Bounds) (cursors : List ℕ) (thread : ℕ) (s : Cu
   ret_fits None = returns_fits None s.below
   ret_fits (Some o) = given_fits o.ty o.value _ (λ v. returns_fits (Some (o.ty, v)) s.below)
 
-  pub act_fits : IsInForm m → (op : Op) → IsOpInForm op → Fits lim cursors (act c s op)
-  act_fits form (Bin op ty a b) h =
+  pub act_fits : IsInForm m → (op : Op) → Fits lim cursors (act c s op)
+  act_fits form (Bin op ty a b) =
       given_fits ty a _ (λ x. given_fits ty b _ (λ y. computes_fits (outcome op (width ty) x y)))
-  act_fits form (Icmp cond ty a b) h = given_fits ty a _ (λ x. given_fits ty b _ (λ y. tt))
-  act_fits form (Select cond ty a b) h =
+  act_fits form (Icmp cond ty a b) = given_fits ty a _ (λ x. given_fits ty b _ (λ y. tt))
+  act_fits form (Select cond ty a b) =
       given_fits I1 cond _ (λ n. given_fits ty a _ (λ x. given_fits ty b _ (λ y. tt)))
-  act_fits form (Cast op from a to) h = given_fits from a _ (λ x. tt)
-  act_fits form (Alloca ty count) h = alloca_fits ty count
-  act_fits form (Load ty at) h =
-      given_fits Ptr at _ (λ a. located_fits ty a _ h (λ access e. (refl, λ word. tt)))
-  act_fits form (Store ty value at) h =
-      given_fits ty value _ (λ v. given_fits Ptr at _ (λ a. located_fits ty a _ h (λ access e.
-      (store_row lim cursors access v e, λ z. tt))))
-  act_fits form (Gep ty base indices) h =
+  act_fits form (Cast op from a to) = given_fits from a _ (λ x. tt)
+  act_fits form (Alloca ty count) = alloca_fits ty count
+  act_fits form (Load ty at) = given_fits Ptr at _ (λ a. located_fits ty a _ (λ access. (refl, λ word. tt)))
+  act_fits form (Store ty value at) =
+      given_fits ty value _ (λ v. given_fits Ptr at _ (λ a. located_fits ty a _ (λ access. (refl, λ z. tt))))
+  act_fits form (Gep ty base indices) =
       given_fits Ptr base _ (λ a. given_by_fits (offset_by c s.frame.env ty indices) _ (λ bytes. tt))
-  act_fits form (Call result callee args) h = calls_fits args (callee_of m callee) (calls_served form callee)
-  act_fits form (Phi ty arms) h = tt
-  act_fits form (Rmw op at ty value) h = absurd h
-  act_fits form (Cmpxchg at ty expected new) h = absurd h
-  act_fits form (Extract ty of index) h = absurd h
-  act_fits form Fence h = tt
-  act_fits form (Ret value) h = ret_fits value
-  act_fits form (Br label) h = goes_fits label
-  act_fits form (CondBr cond first second) h =
+  act_fits form (Call result callee args) = calls_fits args (callee_of m callee) (calls_served form callee)
+  act_fits form (Phi ty arms) = tt
+  act_fits form (Rmw op at ty value) =
+      given_fits Ptr at _ (λ a. given_fits ty value _ (λ v. located_fits ty a _ (λ access.
+      (refl, λ word. rmw_notes op ty at value _))))
+  act_fits form (Cmpxchg at ty expected new) =
+      given_fits Ptr at _ (λ a. given_fits ty expected _ (λ x. given_fits ty new _ (λ v.
+      located_fits ty a _ (λ access. (refl, λ word. tt)))))
+  act_fits form (Extract ty of index) = given_by_fits (part_in s.frame.env of index) _ (λ x. tt)
+  act_fits form Fence = tt
+  act_fits form (Ret value) = ret_fits value
+  act_fits form (Br label) = goes_fits label
+  act_fits form (CondBr cond first second) =
       given_fits I1 cond _ (λ n. goes_fits (if n == 0 then second else first))
-  act_fits form (Switch ty value other cases) h =
+  act_fits form (Switch ty value other cases) =
       given_fits ty value _ (λ n. goes_fits (case_for n cases other))
-  act_fits form Unreachable h = refl
+  act_fits form Unreachable = refl

@@ -4,53 +4,28 @@ use Rattle.std.proofs.Common.{Some, None, slice_get, refl}
 use Rattle.ds_ast.specs.declared.instr.Instr.{Instr}
 use Rattle.ds_ast.specs.declared.module.Module.{Module}
 use Rattle.ds_ast.specs.declared.module.Function.{Function}
-use Rattle.ds_ast.specs.declared.module.Block.{Block}
 use Rattle.ds_map.specs.Bounds.{Bounds}
-use Rattle.ds_shape.specs.Sizes.{◌>>=◌}
 use Rattle.ds_plain.specs.Asking.{has_row}
 use Rattle.ds_plain.specs.Behaviour.{Asked, Asks, Silent, Outcome, Goes, Wants, Stops, Stuck}
 use Rattle.ds_plain.specs.Behaviour.{one_more, asked_by, ask, told_by, tell, behaviour}
-use Rattle.ds_meaning.specs.Frames.{Frame, State, Runs, Notes, TooLarge, blocks_in, block_among}
-use Rattle.ds_meaning.specs.Frames.{first_frame, has_room, instruction_of}
+use Rattle.ds_meaning.specs.Frames.{State, Runs, Notes, TooLarge, first_frame, has_room, instruction_of}
 use Rattle.ds_meaning.specs.Meaning.{act_at, current, step}
 use Rattle.ds_meaning.specs.Program.{context, with_argument, start, start_by}
-use Rattle.ds_form.specs.Form.{IsOpInForm, IsBlockInForm, IsFunctionInForm, IsInForm}
+use Rattle.ds_form.specs.Form.{IsInForm}
 use Rattle.ds_form.specs.Laws.{FormsAskRows}
-use Rattle.ds_form.proofs.Lists.{item_has, block_has}
 use Rattle.ds_form.proofs.Acts.{NoNote, Fits, act_fits}
 
 -- STEPS
 
 module _ (m : Module) (cursors : List ℕ) (form : IsInForm m) where
-  -- the instruction at hand is of the form
-  at_hand : (fr : Frame) (i : Instr) → instruction_of m fr ≡ Some i → IsOpInForm i.op
-  at_hand fr i = by_function (slice_get m.functions fr.function) refl
-    where
-      by_block : (f : Function) → IsFunctionInForm f → (o : Option Block) → block_among f.blocks fr.block ≡ o
-          → o >>= (λ (b : Block). slice_get b.code fr.index) ≡ Some i → IsOpInForm i.op
-      by_block f h None found e = absurd (cc)
-      by_block f h (Some b) found e =
-          item_has (λ (j : Instr). IsOpInForm j.op) b.code fr.index i e
-          (block_has IsBlockInForm f.blocks fr.block b found h.1)
-
-      by_function : (o : Option Function) → slice_get m.functions fr.function ≡ o
-          → block_among (blocks_in o) fr.block >>= (λ (b : Block). slice_get b.code fr.index) ≡ Some i
-          → IsOpInForm i.op
-      by_function None is e = absurd (cc)
-      by_function (Some f) is e =
-          by_block f (item_has IsFunctionInForm m.functions fr.function f is form)
-          (block_among f.blocks fr.block) refl e
-
   step_fits : (lim : Bounds) (thread : ℕ) (s : State) → NoNote s
       → Fits lim cursors (step (context false lim m thread) s)
-  step_fits lim thread (Runs fr below) i = by_instruction (instruction_of m fr) refl
+  step_fits lim thread (Runs fr below) i = by_instruction (instruction_of m fr)
     where
-      by_instruction : (o : Option Instr) → instruction_of m fr ≡ o
-          → Fits lim cursors (act_at (context false lim m thread) fr below o)
-      by_instruction None is = tt
-      by_instruction (Some j) is =
+      by_instruction : (o : Option Instr) → Fits lim cursors (act_at (context false lim m thread) fr below o)
+      by_instruction None = tt
+      by_instruction (Some j) =
           act_fits m lim cursors thread (current (context false lim m thread) fr below j.result) form j.op
-          (at_hand fr j is)
   step_fits lim thread (Notes at' value fr below) i = absurd i
   step_fits lim thread (TooLarge function) i = refl
 

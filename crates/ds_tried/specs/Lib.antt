@@ -12,3 +12,4 @@ pub mod Worked
 pub mod Threaded
 pub mod Loops
 pub mod Rows
+pub mod Accesses

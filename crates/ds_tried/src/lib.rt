@@ -38,6 +38,8 @@ ghost use Rattle.ds_tried.specs.Rounds.{TenThousandEndARound, OneUnitLessGoesOn,
 ghost use Rattle.ds_tried.specs.Rounds.{MainEndsInTheLast};
 ghost use Rattle.ds_tried.specs.Rows.{BlockIsTakenAndFreed, OthersAreSeen, StrangeWordsAreAskedAgain, NullIsTold};
 ghost use Rattle.ds_tried.specs.Rows.{PagesAreLookedAtRound, NoStartsAreRefused, SecondFreesAreRefused};
+ghost use Rattle.ds_tried.specs.Accesses.{SubtractionWraps, ExpectedWordIsReplaced, NeighboursStay, OtherWritesStay};
+ghost use Rattle.ds_tried.specs.Accesses.{NarrowSumWraps, OtherByteIsLoaded};
 ghost use Rattle.ds_tried.specs.Worked.{use_after_free_traps, pointer_store_is_noted, free_of_marked_pointer_traps};
 ghost use Rattle.ds_tried.specs.Worked.{pointer_in_register_is_not_found, free_of_null_does_nothing};
 ghost use Rattle.ds_tried.specs.Worked.{double_free_traps, free_inside_block_traps, free_of_stack_traps};
@@ -230,6 +232,16 @@ pub fn runs_are_cut_into_rounds()
     ensures one_unit_less_goes_on { OneUnitLessGoesOn }
     ensures each_thread_has_each_round { EachThreadHasEachRound }
     ensures main_ends_in_the_last { MainEndsInTheLast }
+{}
+
+/// The steps of an access to program memory follow the step table.
+pub fn accesses_are_followed()
+    ensures subtraction { SubtractionWraps }
+    ensures whole_words { ExpectedWordIsReplaced }
+    ensures neighbours { NeighboursStay }
+    ensures other_writes { OtherWritesStay }
+    ensures narrow_sum { NarrowSumWraps }
+    ensures other_bytes { OtherByteIsLoaded }
 {}
 
 /// The steps of a malloc and a free follow the step table.
