@@ -10,8 +10,8 @@ use Rattle.ds_plain.specs.declared.Request.{Request}
 use Rattle.ds_plain.specs.declared.Request.TheVariants as requests
 use Rattle.ds_plain.specs.declared.FreeAt.TheVariants as frees
 use Rattle.ds_plain.specs.declared.Position.{Position}
-use Rattle.ds_plain.specs.declared.Position.TheVariants.{Start, Access, Malloc, Free, DrawPrint, StoreEnded, Over}
-use Rattle.ds_plain.specs.declared.Position.TheVariants.{NoRow}
+use Rattle.ds_plain.specs.declared.Position.TheVariants.{Start, Access, Malloc, Free, Spawn, Join, DrawPrint, StoreEnded}
+use Rattle.ds_plain.specs.declared.Position.TheVariants.{Over, NoRow}
 use Rattle.ds_plain.specs.Behaviour.{Asked, Asks, Silent, Behaviour}
 use Rattle.ds_plain.specs.Freeing.{is_freeable}
 use Rattle.ds_plain.specs.Table.{end_by, looking_for, position_of}
@@ -44,6 +44,8 @@ Keeps lim account units (Start at) = Due lim account units
 Keeps lim account units (Access at) = Due lim account units
 Keeps lim account units (Malloc at) = Due lim account units
 Keeps lim account units (Free at) = Due lim account units
+Keeps lim account units (Spawn at) = Due lim account units
+Keeps lim account units (Join at) = Due lim account units
 Keeps lim account units (DrawPrint value) = Due lim account units
 Keeps lim account units (StoreEnded stop) = Ends lim account units stop
 Keeps lim account units (Over stop) = Ends lim account units stop
@@ -60,6 +62,8 @@ MayAsk cost (Start at) = cost ≡ 1
 MayAsk cost (Access at) = cost ≡ 1
 MayAsk cost (Malloc at) = cost ≡ 1
 MayAsk cost (Free at) = cost ≡ 1
+MayAsk cost (Spawn at) = cost ≡ 1
+MayAsk cost (Join at) = cost ≡ 1
 MayAsk cost (DrawPrint value) = cost ≡ 1
 MayAsk cost (StoreEnded stop) = (cost ≡ 0) × (stop ≡ Fuel → ⊥)
 MayAsk cost (Over stop) = (cost ≡ 0) × (stop ≡ Fuel → ⊥)
@@ -147,6 +151,10 @@ module _ (lim : Bounds) (cursors : List ℕ) (rest : Behaviour) (account : Accou
       paying_keeps units began (Malloc at) (begun + cost) priced (omega (arith, asked, is)) le (λ due. due)
   standing_keeps begun cost units began (Free at) asked priced is le =
       paying_keeps units began (Free at) (begun + cost) priced (omega (arith, asked, is)) le (λ due. due)
+  standing_keeps begun cost units began (Spawn at) asked priced is le =
+      paying_keeps units began (Spawn at) (begun + cost) priced (omega (arith, asked, is)) le (λ due. due)
+  standing_keeps begun cost units began (Join at) asked priced is le =
+      paying_keeps units began (Join at) (begun + cost) priced (omega (arith, asked, is)) le (λ due. due)
   standing_keeps begun cost units began (DrawPrint value) asked priced is le =
       paying_keeps units began (DrawPrint value) (begun + cost) priced (omega (arith, asked, is)) le (λ due. due)
   standing_keeps begun cost units began (StoreEnded stop) asked priced is le =

@@ -1,5 +1,5 @@
 -- What is kept along a trace, by induction from any thread that keeps it.
-use Rattle.std.proofs.Common.{◌≡◌, ℕ, ◌+◌, ◌≤◌, Bool, true, false, if◌then◌else◌, List, [], ◌∷◌, refl, sym}
+use Rattle.std.proofs.Common.{◌≡◌, ℕ, ◌+◌, ◌≤◌, Bool, true, false, List, [], ◌∷◌, refl, sym}
 use Rattle.std.proofs.Common.{ap, ◌∙◌, subst, arith, slice_set}
 use Rattle.ds_map.specs.Bounds.{Bounds}
 use Rattle.ds_map.specs.Blocks.{block_start}
@@ -7,21 +7,25 @@ use Rattle.ds_step.specs.declared.Step.{Step}
 use Rattle.ds_plain.specs.declared.Stop.{Stop}
 use Rattle.ds_plain.specs.declared.StartAt.TheVariants.{LoadStart}
 use Rattle.ds_plain.specs.declared.Position.{Position}
-use Rattle.ds_plain.specs.declared.Position.TheVariants.{Start, Access, Malloc, Free, DrawPrint, StoreEnded, Over}
-use Rattle.ds_plain.specs.declared.Position.TheVariants.{NoRow}
+use Rattle.ds_plain.specs.declared.TrapKind.TheVariants.{BadJoin}
+use Rattle.ds_plain.specs.declared.Position.TheVariants.{Start, Access, Malloc, Free, Spawn, Join, DrawPrint, StoreEnded}
+use Rattle.ds_plain.specs.declared.Position.TheVariants.{Over, NoRow}
 use Rattle.ds_plain.specs.Behaviour.{told, place_in_text, silent, Program}
 use Rattle.ds_plain.specs.Plain.{trap_stop}
+use Rattle.ds_plain.specs.Starting.{StartNext, StartsOn, Begins, start_next}
+use Rattle.ds_plain.specs.Spawning.{SpawnNext, SpawnsOn, SpawnTells, spawn_next}
+use Rattle.ds_plain.specs.Joining.{JoinNext, JoinsOn, Joined, FailsJoin, join_next}
 use Rattle.ds_plain.specs.Accessing.{AccessNext, AccessesOn, Tells, access_next}
 use Rattle.ds_plain.specs.Searching.{AllocNext, Looks, Takes, TakesNone, place_behind, alloc_next}
 use Rattle.ds_plain.specs.Freeing.{FreeNext, FreesOn, Freed, FailsFree, free_next}
-use Rattle.ds_plain.specs.Table.{begins, is_over}
-use Rattle.ds_plain.specs.Thread.{Thread, standing, going_on, first_thread, moved_from, moved_from_access}
-use Rattle.ds_plain.specs.Thread.{moved_from_malloc, trap_kind}
+use Rattle.ds_plain.specs.Table.{is_over}
+use Rattle.ds_plain.specs.Thread.{Thread, going_on, first_thread, moved_from, moved_from_access}
+use Rattle.ds_plain.specs.Thread.{moved_from_start, moved_from_spawn, moved_from_join, moved_from_malloc, trap_kind}
 use Rattle.ds_plain.specs.Thread.{moved_from_free, freed_address, first_cursors, Follows, thread_after, stop_at}
 use Rattle.ds_plain.specs.Thread.{stop_of}
 use Rattle.ds_plain.specs.Explained.{HasEnded}
-use Rattle.ds_fuel_laws.specs.Fuel.{Next, ComesTo, StepsOn, price_of, next_from_start, next_from_access}
-use Rattle.ds_fuel_laws.specs.Fuel.{next_from_malloc, next_from_free, once_told}
+use Rattle.ds_fuel_laws.specs.Fuel.{Next, StepsOn, price_of, next_from_start, next_from_access}
+use Rattle.ds_fuel_laws.specs.Fuel.{next_from_spawn, next_from_join, next_from_malloc, next_from_free, once_told}
 use Rattle.ds_fuel_laws.specs.Fuel.{Account, paid_for, account_from, account_after, account_of, and_paid, EndsByFuel}
 use Rattle.ds_fuel_laws.proofs.Kept.{Due, Ends, Keeps, IsKept, going_keeps, stepping_keeps, failing_keeps}
 
@@ -42,20 +46,12 @@ paying lim account units next a due keeps =
 module _ (program : Program) (lim : Bounds) (t : ℕ) where
   -- STEPS
 
-  start_keeps : (a : Thread) (old : ℕ) → a.units + 1 ≤ lim.fuel
-      → IsKept lim (record { paid = a.units + 1; next = next_from_start program t LoadStart old })
-      (moved_from program lim t a (Start LoadStart) old)
-  start_keeps a old le = by_test (begins t old)
-    where
-      by_test : (b : Bool)
-          → IsKept lim (record {
-            paid = a.units + 1;
-            next = if b then ComesTo (program.behaves t program.main 0 []) else StepsOn;
-          })
-          (if b then going_on lim a.cursors (a.units + 1) (program.behaves t program.main 0)
-          else standing lim a.cursors a.rest (a.units + 1) a.began (Start LoadStart))
-      by_test true = going_keeps lim a.cursors (a.units + 1) (program.behaves t program.main 0) le
-      by_test false = stepping_keeps lim a.cursors (a.units + 1) a.rest a.began (Start LoadStart) refl le
+  start_keeps : (a : Thread) (next : StartNext) → a.units + 1 ≤ lim.fuel
+      → IsKept lim (record { paid = a.units + 1; next = next_from_start program t next })
+      (moved_from_start program lim t a next)
+  start_keeps a (StartsOn at) le = stepping_keeps lim a.cursors (a.units + 1) a.rest a.began (Start at) refl le
+  start_keeps a (Begins function argument) le =
+      going_keeps lim a.cursors (a.units + 1) (program.behaves t function argument) le
 
   told_keeps : (a : Thread) (cursors : List ℕ) (answer : ℕ) → a.units + 1 ≤ lim.fuel
       → IsKept lim (record { paid = a.units + 1; next = once_told a.rest answer })
@@ -66,6 +62,19 @@ module _ (program : Program) (lim : Bounds) (t : ℕ) where
       → IsKept lim (record { paid = a.units + 1; next = next_from_access a.rest next }) (moved_from_access lim a next)
   access_keeps a (AccessesOn at) le = stepping_keeps lim a.cursors (a.units + 1) a.rest a.began (Access at) refl le
   access_keeps a (Tells answer) le = told_keeps a a.cursors answer le
+
+  spawn_keeps : (a : Thread) (next : SpawnNext) → a.units + 1 ≤ lim.fuel
+      → IsKept lim (record { paid = a.units + 1; next = next_from_spawn a.rest next }) (moved_from_spawn lim a next)
+  spawn_keeps a (SpawnsOn at) le = stepping_keeps lim a.cursors (a.units + 1) a.rest a.began (Spawn at) refl le
+  spawn_keeps a (SpawnTells answer) le = told_keeps a a.cursors answer le
+
+  join_keeps : (a : Thread) (next : JoinNext) → a.units + 1 ≤ lim.fuel
+      → IsKept lim (record { paid = a.units + 1; next = next_from_join a.rest next }) (moved_from_join lim a next)
+  join_keeps a (JoinsOn at) le = stepping_keeps lim a.cursors (a.units + 1) a.rest a.began (Join at) refl le
+  join_keeps a Joined le = told_keeps a a.cursors 0 le
+  join_keeps a (FailsJoin number) le =
+      failing_keeps lim a.cursors (a.units + 1) a.rest a.began
+      (StoreEnded (trap_stop (place_in_text (a.rest [])) (BadJoin number))) (refl, λ e. cc) le
 
   malloc_keeps : (a : Thread) (next : AllocNext) → a.units + 1 ≤ lim.fuel
       → IsKept lim (record { paid = a.units + 1; next = next_from_malloc a.rest next }) (moved_from_malloc lim a next)
@@ -87,9 +96,10 @@ module _ (program : Program) (lim : Bounds) (t : ℕ) where
   step_keeps : (a : Thread) (p : Position) (old : ℕ) (account : Account) → Keeps lim account a.units p
       → is_over p ≡ false
       → IsKept lim (account_from program lim t a p old account) (moved_from program lim t a p old)
-  step_keeps a (Start LoadStart) old account due goes =
-      paying lim account a.units (next_from_start program t LoadStart old)
-      (moved_from program lim t a (Start LoadStart) old) due (start_keeps a old (one_more lim account a.units due))
+  step_keeps a (Start at) old account due goes =
+      let next : StartNext = start_next program t at old in
+      paying lim account a.units (next_from_start program t next) (moved_from_start program lim t a next) due
+      (start_keeps a next (one_more lim account a.units due))
   step_keeps a (Access at) old account due goes =
       let next : AccessNext = access_next at old in
       paying lim account a.units (next_from_access a.rest next) (moved_from_access lim a next) due
@@ -102,6 +112,14 @@ module _ (program : Program) (lim : Bounds) (t : ℕ) where
       let next : FreeNext = free_next at old in
       paying lim account a.units (next_from_free a.rest next) (moved_from_free lim a (freed_address at) next) due
       (free_keeps a (freed_address at) next (one_more lim account a.units due))
+  step_keeps a (Spawn at) old account due goes =
+      let next : SpawnNext = spawn_next at old in
+      paying lim account a.units (next_from_spawn a.rest next) (moved_from_spawn lim a next) due
+      (spawn_keeps a next (one_more lim account a.units due))
+  step_keeps a (Join at) old account due goes =
+      let next : JoinNext = join_next t at old in
+      paying lim account a.units (next_from_join a.rest next) (moved_from_join lim a next) due
+      (join_keeps a next (one_more lim account a.units due))
   step_keeps a (DrawPrint value) old account due goes =
       paying lim account a.units (once_told a.rest 0) (going_on lim a.cursors (a.units + 1) (told a.rest 0)) due
       (told_keeps a a.cursors 0 (one_more lim account a.units due))
@@ -126,6 +144,8 @@ has_ended lim account (Start at) units began stop keeps is ended = absurd (subst
 has_ended lim account (Access at) units began stop keeps is ended = absurd (subst HasEnded (sym is) ended)
 has_ended lim account (Malloc at) units began stop keeps is ended = absurd (subst HasEnded (sym is) ended)
 has_ended lim account (Free at) units began stop keeps is ended = absurd (subst HasEnded (sym is) ended)
+has_ended lim account (Spawn at) units began stop keeps is ended = absurd (subst HasEnded (sym is) ended)
+has_ended lim account (Join at) units began stop keeps is ended = absurd (subst HasEnded (sym is) ended)
 has_ended lim account (DrawPrint value) units began stop keeps is ended = absurd (subst HasEnded (sym is) ended)
 has_ended lim account (StoreEnded stop') units true stop keeps is ended = absurd (subst HasEnded (sym is) ended)
 has_ended lim account (StoreEnded stop') units false stop keeps is ended = absurd (subst HasEnded (sym is) ended)
@@ -138,6 +158,8 @@ within lim account (Start at) units keeps = omega (arith, keeps.left)
 within lim account (Access at) units keeps = omega (arith, keeps.left)
 within lim account (Malloc at) units keeps = omega (arith, keeps.left)
 within lim account (Free at) units keeps = omega (arith, keeps.left)
+within lim account (Spawn at) units keeps = omega (arith, keeps.left)
+within lim account (Join at) units keeps = omega (arith, keeps.left)
 within lim account (DrawPrint value) units keeps = omega (arith, keeps.left)
 within lim account (StoreEnded stop) units keeps = keeps.within
 within lim account (Over stop) units keeps = keeps.within

@@ -8,16 +8,16 @@ use Rattle.ds_plain.specs.declared.Stop.{Stop}
 use Rattle.ds_plain.specs.declared.Stop.TheVariants.{Idle, Running, Returned, Trap, Full, Fuel}
 use Rattle.ds_plain.specs.declared.Request.{Request}
 use Rattle.ds_plain.specs.declared.Request.TheVariants as requests
-use Rattle.ds_plain.specs.declared.StartAt.{StartAt}
-use Rattle.ds_plain.specs.declared.StartAt.TheVariants.{LoadStart}
 use Rattle.ds_plain.specs.declared.Position.{Position}
-use Rattle.ds_plain.specs.declared.Position.TheVariants.{Start, Access, Malloc, Free, DrawPrint, StoreEnded, Over}
-use Rattle.ds_plain.specs.declared.Position.TheVariants.{NoRow}
+use Rattle.ds_plain.specs.declared.Position.TheVariants.{Start, Access, Malloc, Free, Spawn, Join, DrawPrint, StoreEnded}
+use Rattle.ds_plain.specs.declared.Position.TheVariants.{Over, NoRow}
 use Rattle.ds_plain.specs.Behaviour.{Asked, Asks, Silent, Behaviour, told, Program}
+use Rattle.ds_plain.specs.Starting.{StartNext, StartsOn, Begins, start_next}
+use Rattle.ds_plain.specs.Spawning.{SpawnNext, SpawnsOn, SpawnTells, spawn_next}
+use Rattle.ds_plain.specs.Joining.{JoinNext, JoinsOn, Joined, FailsJoin, join_next}
 use Rattle.ds_plain.specs.Accessing.{AccessNext, AccessesOn, Tells, access_next}
 use Rattle.ds_plain.specs.Searching.{AllocNext, Looks, Takes, TakesNone, alloc_next}
 use Rattle.ds_plain.specs.Freeing.{FreeNext, FreesOn, Freed, FailsFree, free_next}
-use Rattle.ds_plain.specs.Table.{begins}
 use Rattle.ds_plain.specs.Thread.{Thread, first_thread, moved, thread_after}
 
 -- PRICES
@@ -51,7 +51,7 @@ pub data Next : Type 0 where
   ComesTo : Asked → Next
   -- one step more: for what it asked, or to see whether it may begin
   StepsOn : Next
-  -- its last step, since a free failed
+  -- its last step, since a free or a join failed
   Fails : Next
 
 -- What that costs: one unit for each instruction that begins, the one that asks too, and one for the step, but for the
@@ -79,9 +79,9 @@ abbrev pub once_told : Behaviour → (answer : ℕ) → Next
 once_told rest answer = ComesTo (told rest answer [])
 
 -- what comes next behind a step, by its answer
-abbrev pub next_from_start : Program → (t : ℕ) → StartAt → (old : ℕ) → Next
-next_from_start program t LoadStart old =
-    if begins t old then ComesTo (program.behaves t program.main 0 []) else StepsOn
+abbrev pub next_from_start : Program → (t : ℕ) → StartNext → Next
+next_from_start program t (StartsOn at) = StepsOn
+next_from_start program t (Begins function argument) = ComesTo (program.behaves t function argument [])
 
 abbrev pub next_from_access : Behaviour → AccessNext → Next
 next_from_access rest (AccessesOn at) = StepsOn
@@ -96,6 +96,15 @@ abbrev pub next_from_free : Behaviour → FreeNext → Next
 next_from_free rest (FreesOn at) = StepsOn
 next_from_free rest Freed = once_told rest 0
 next_from_free rest (FailsFree trap) = Fails
+
+abbrev pub next_from_spawn : Behaviour → SpawnNext → Next
+next_from_spawn rest (SpawnsOn at) = StepsOn
+next_from_spawn rest (SpawnTells answer) = once_told rest answer
+
+abbrev pub next_from_join : Behaviour → JoinNext → Next
+next_from_join rest (JoinsOn at) = StepsOn
+next_from_join rest Joined = once_told rest 0
+next_from_join rest (FailsJoin number) = Fails
 
 -- ACCOUNTS
 
@@ -114,11 +123,14 @@ paid_for account next = record { paid = and_paid account.paid (price_of account.
 
 -- behind the step at a position, by its answer; behind the last one nothing comes that was not there before
 abbrev pub account_from : Program → Bounds → (t : ℕ) → Thread → Position → (old : ℕ) → Account → Account
-account_from program lim t a (Start at) old account = paid_for account (next_from_start program t at old)
+account_from program lim t a (Start at) old account =
+    paid_for account (next_from_start program t (start_next program t at old))
 account_from program lim t a (Access at) old account = paid_for account (next_from_access a.rest (access_next at old))
 account_from program lim t a (Malloc at) old account =
     paid_for account (next_from_malloc a.rest (alloc_next lim at old))
 account_from program lim t a (Free at) old account = paid_for account (next_from_free a.rest (free_next at old))
+account_from program lim t a (Spawn at) old account = paid_for account (next_from_spawn a.rest (spawn_next at old))
+account_from program lim t a (Join at) old account = paid_for account (next_from_join a.rest (join_next t at old))
 account_from program lim t a (DrawPrint value) old account = paid_for account (once_told a.rest 0)
 account_from program lim t a (StoreEnded stop) old account = account
 account_from program lim t a (Over stop) old account = account

@@ -2,9 +2,12 @@
 use Rattle.std.specs.Prelude.{◌≡◌, ℕ, Bool, true, not, List}
 use Rattle.ds_map.specs.Bounds.{Bounds}
 use Rattle.ds_plain.specs.declared.Position.{Position}
-use Rattle.ds_plain.specs.declared.Position.TheVariants.{Start, Access, Malloc, Free, DrawPrint, StoreEnded, Over, NoRow}
+use Rattle.ds_plain.specs.declared.Position.TheVariants.{Start, Access, Malloc, Free, Spawn, Join, DrawPrint, StoreEnded}
+use Rattle.ds_plain.specs.declared.Position.TheVariants.{Over, NoRow}
 use Rattle.ds_plain.specs.Behaviour.{Asked, Asks, Silent, Behaviour, Program}
 use Rattle.ds_plain.specs.Table.{position_of, is_over}
+use Rattle.ds_plain.specs.Spawning.{IsSpawnAt}
+use Rattle.ds_plain.specs.Joining.{IsJoinAt}
 use Rattle.ds_plain.specs.Accessing.{IsAccessAt}
 use Rattle.ds_plain.specs.Reached.{IsAllocAt, AreCursors, IsFreeAt}
 
@@ -27,6 +30,8 @@ IsWithin lim (Start at) = Unit {0}
 IsWithin lim (Access at) = IsAccessAt lim at
 IsWithin lim (Malloc at) = IsAllocAt lim at
 IsWithin lim (Free at) = IsFreeAt lim at
+IsWithin lim (Spawn at) = IsSpawnAt lim at
+IsWithin lim (Join at) = IsJoinAt at
 IsWithin lim (DrawPrint value) = Unit {0}
 IsWithin lim (StoreEnded stop) = Unit {0}
 IsWithin lim (Over stop) = Unit {0}

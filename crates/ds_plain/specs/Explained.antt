@@ -10,7 +10,8 @@ use Rattle.ds_plain.specs.declared.Stop.TheVariants.{Idle, Running, Returned, Tr
 use Rattle.ds_plain.specs.Behaviour.{Program}
 use Rattle.ds_plain.specs.State.{State, Setting, first_state, block_word, stop_of_phase}
 use Rattle.ds_plain.specs.Plain.{IsPlainRun, state_after}
-use Rattle.ds_plain.specs.Table.{given_word, prints_word}
+use Rattle.ds_plain.specs.Spawning.{given_word}
+use Rattle.ds_plain.specs.Table.{prints_word}
 use Rattle.ds_plain.specs.Thread.{first_thread, Follows, thread_after, stop_of}
 use Rattle.ds_plain.specs.History.{History, Interleaves, threads_of, IsLegal, words_left, erase}
 

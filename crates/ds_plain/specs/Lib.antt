@@ -3,6 +3,9 @@ pub mod Parts
 pub mod State
 pub mod Plain
 pub mod Operations
+pub mod Starting
+pub mod Spawning
+pub mod Joining
 pub mod Accessing
 pub mod Searching
 pub mod Freeing

@@ -1,5 +1,5 @@
 -- The step table: for each position of a thread its operation, its row, and what an answer means.
-use Rattle.std.specs.Prelude.{ℕ, ◌+◌, Bool, true, false, ◌==◌, ◌&&◌, if◌then◌else◌, List, Option, Some, None}
+use Rattle.std.specs.Prelude.{ℕ, Bool, true, false, if◌then◌else◌, List, Option, Some, None}
 use Rattle.std.specs.Prelude.{slice_index}
 use Rattle.ds_map.specs.Bounds.{Bounds}
 use Rattle.ds_map.specs.Blocks.{class_of}
@@ -12,35 +12,28 @@ use Rattle.ds_plain.specs.declared.Stop.{Stop}
 use Rattle.ds_plain.specs.declared.Stop.TheVariants.{Idle, Running, Returned, Trap, Full, Fuel}
 use Rattle.ds_plain.specs.declared.Request.{Request}
 use Rattle.ds_plain.specs.declared.Request.TheVariants as requests
-use Rattle.ds_plain.specs.declared.StartAt.{StartAt}
-use Rattle.ds_plain.specs.declared.StartAt.TheVariants.{LoadStart}
+use Rattle.ds_plain.specs.declared.SpawnAt.TheVariants.{DrawThread}
+use Rattle.ds_plain.specs.declared.JoinAt.TheVariants.{LoadGiven}
 use Rattle.ds_plain.specs.declared.Change.TheVariants.{Put, Combine, Replace}
 use Rattle.ds_plain.specs.declared.AccessAt.TheVariants.{LoadWord, StoreWord, CombineWord, ReplaceWord}
 use Rattle.ds_plain.specs.declared.AllocAt.TheVariants as allocs
 use Rattle.ds_plain.specs.declared.FreeAt.TheVariants as frees
 use Rattle.ds_plain.specs.declared.Position.{Position}
-use Rattle.ds_plain.specs.declared.Position.TheVariants.{Start, Access, Malloc, Free, DrawPrint, StoreEnded, Over, NoRow}
+use Rattle.ds_plain.specs.declared.Position.TheVariants.{Start, Access, Malloc, Free, Spawn, Join, DrawPrint, StoreEnded}
+use Rattle.ds_plain.specs.declared.Position.TheVariants.{Over, NoRow}
 use Rattle.ds_plain.specs.Operations.{load_of, store_of}
+use Rattle.ds_plain.specs.Starting.{start_word, start_op, start_row, start_event}
+use Rattle.ds_plain.specs.Spawning.{spawn_op, spawn_row, spawn_event}
+use Rattle.ds_plain.specs.Joining.{join_op, join_row, join_event}
 use Rattle.ds_plain.specs.Accessing.{access_op, access_row, access_event, changing_at}
 use Rattle.ds_plain.specs.Searching.{search_from, alloc_op, alloc_row, alloc_event}
 use Rattle.ds_plain.specs.Freeing.{free_op, free_row, free_event, is_freeable}
-
--- the word that counts the threads given out
-abbrev pub given_word : ℕ
-given_word = 1
 
 -- the word that counts the prints
 abbrev pub prints_word : ℕ
 prints_word = 2
 
--- the start word of a thread: 0 until it may start, 1 from then on, and 2 once it has ended
-abbrev pub start_word : ℕ → ℕ
-start_word t = 16 + t
-
 -- OPERATIONS
-
-abbrev pub start_op : ℕ → StartAt → WordOp
-start_op t LoadStart = load_of (start_word t)
 
 -- the operation that thread t makes at a position; a thread that makes no step makes none
 abbrev pub op_at : Bounds → ℕ → Position → WordOp
@@ -48,6 +41,8 @@ op_at lim t (Start at) = start_op t at
 op_at lim t (Access at) = access_op lim at
 op_at lim t (Malloc at) = alloc_op lim at
 op_at lim t (Free at) = free_op lim at
+op_at lim t (Spawn at) = spawn_op lim at
+op_at lim t (Join at) = join_op at
 op_at lim t (DrawPrint value) = record { kind = Add; word = prints_word; a = 1; b = 0 }
 op_at lim t (StoreEnded stop) = store_of (start_word t) 2
 op_at lim t (Over stop) = load_of 0
@@ -55,15 +50,14 @@ op_at lim t NoRow = load_of 0
 
 -- ROWS
 
-abbrev pub start_row : StartAt → ℕ
-start_row LoadStart = 1
-
 -- the number of the row; 0 is none
 abbrev pub row_at : Position → ℕ
 row_at (Start at) = start_row at
 row_at (Access at) = access_row at
 row_at (Malloc at) = alloc_row at
 row_at (Free at) = free_row at
+row_at (Spawn at) = spawn_row at
+row_at (Join at) = join_row at
 row_at (DrawPrint value) = 13
 row_at (StoreEnded stop) = 12
 row_at (Over stop) = 0
@@ -71,19 +65,14 @@ row_at NoRow = 0
 
 -- EVENTS
 
--- thread 0 begins where its start word is 1
-abbrev pub begins : ℕ → ℕ → Bool
-begins t old = (t == 0) && (old == 1)
-
-abbrev pub start_event : ℕ → StartAt → ℕ → Event
-start_event t LoadStart old = if begins t old then events.Begin else events.Log
-
 -- what the answer means
 abbrev pub event_at : Bounds → ℕ → Position → ℕ → Event
 event_at lim t (Start at) old = start_event t at old
 event_at lim t (Access at) old = access_event at old
 event_at lim t (Malloc at) old = alloc_event lim at old
 event_at lim t (Free at) old = free_event at old
+event_at lim t (Spawn at) old = spawn_event at old
+event_at lim t (Join at) old = join_event t at old
 event_at lim t (DrawPrint value) old = events.Print old value
 event_at lim t (StoreEnded stop) old = events.End
 event_at lim t (Over stop) old = events.Log
@@ -127,8 +116,8 @@ position_of lim cursors (requests.Malloc bytes) = looking_for cursors (class_of 
 position_of lim cursors (requests.Free address) = freeing_at lim address
 position_of lim cursors (requests.Note loc value) = NoRow
 position_of lim cursors (requests.Print value) = DrawPrint value
-position_of lim cursors (requests.Spawn loc function arg) = NoRow
-position_of lim cursors (requests.Join number) = NoRow
+position_of lim cursors (requests.Spawn loc function arg) = Spawn (DrawThread loc function arg)
+position_of lim cursors (requests.Join number) = Join (LoadGiven number)
 position_of lim cursors (requests.Stop stop) = end_by stop
 
 -- a thread at this position makes no step
@@ -137,6 +126,8 @@ is_over (Start at) = false
 is_over (Access at) = false
 is_over (Malloc at) = false
 is_over (Free at) = false
+is_over (Spawn at) = false
+is_over (Join at) = false
 is_over (DrawPrint value) = false
 is_over (StoreEnded stop) = false
 is_over (Over stop) = true

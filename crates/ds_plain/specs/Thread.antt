@@ -8,20 +8,23 @@ use Rattle.ds_step.specs.declared.FreeTrap.TheVariants as traps
 use Rattle.ds_step.specs.declared.Step.{Step}
 use Rattle.ds_plain.specs.declared.Stop.{Stop}
 use Rattle.ds_plain.specs.declared.Stop.TheVariants.{Idle, Running, Fuel}
-use Rattle.ds_plain.specs.declared.StartAt.{StartAt}
 use Rattle.ds_plain.specs.declared.StartAt.TheVariants.{LoadStart}
 use Rattle.ds_plain.specs.declared.TrapKind.{TrapKind}
-use Rattle.ds_plain.specs.declared.TrapKind.TheVariants.{BadFree, DoubleFree}
+use Rattle.ds_plain.specs.declared.TrapKind.TheVariants.{BadFree, DoubleFree, BadJoin}
 use Rattle.ds_plain.specs.declared.FreeAt.{FreeAt}
 use Rattle.ds_plain.specs.declared.FreeAt.TheVariants as frees
 use Rattle.ds_plain.specs.declared.Position.{Position}
-use Rattle.ds_plain.specs.declared.Position.TheVariants.{Start, Access, Malloc, Free, DrawPrint, StoreEnded, Over, NoRow}
+use Rattle.ds_plain.specs.declared.Position.TheVariants.{Start, Access, Malloc, Free, Spawn, Join, DrawPrint, StoreEnded}
+use Rattle.ds_plain.specs.declared.Position.TheVariants.{Over, NoRow}
 use Rattle.ds_plain.specs.Behaviour.{Asked, Asks, Silent, place_in_text, Behaviour, told, silent, Program}
 use Rattle.ds_plain.specs.Plain.{trap_stop}
+use Rattle.ds_plain.specs.Starting.{StartNext, StartsOn, Begins, start_next}
+use Rattle.ds_plain.specs.Spawning.{SpawnNext, SpawnsOn, SpawnTells, spawn_next}
+use Rattle.ds_plain.specs.Joining.{JoinNext, JoinsOn, Joined, FailsJoin, join_next}
 use Rattle.ds_plain.specs.Accessing.{AccessNext, AccessesOn, Tells, access_next}
 use Rattle.ds_plain.specs.Searching.{AllocNext, Looks, Takes, TakesNone, place_behind, alloc_next}
 use Rattle.ds_plain.specs.Freeing.{FreeNext, FreesOn, Freed, FailsFree, free_next}
-use Rattle.ds_plain.specs.Table.{begins, step_at, position_of, is_over}
+use Rattle.ds_plain.specs.Table.{step_at, position_of, is_over}
 
 pub record Thread : Type 0 where
   -- how it behaves from its present request on; before it begins nothing is known of that
@@ -51,6 +54,8 @@ standing lim cursors rest units began (Start at) = paying lim cursors rest units
 standing lim cursors rest units began (Access at) = paying lim cursors rest units began (Access at)
 standing lim cursors rest units began (Malloc at) = paying lim cursors rest units began (Malloc at)
 standing lim cursors rest units began (Free at) = paying lim cursors rest units began (Free at)
+standing lim cursors rest units began (Spawn at) = paying lim cursors rest units began (Spawn at)
+standing lim cursors rest units began (Join at) = paying lim cursors rest units began (Join at)
 standing lim cursors rest units began (DrawPrint value) = paying lim cursors rest units began (DrawPrint value)
 standing lim cursors rest units began (StoreEnded stop) =
     record { rest = rest; position = StoreEnded stop; units = units; began = began; cursors = cursors }
@@ -73,10 +78,12 @@ abbrev pub going_on : Bounds → (cursors : List ℕ) → ℕ → Behaviour → 
 going_on lim cursors units rest = arriving lim cursors rest units (rest [])
 
 -- the thread after the step at a position, by its answer; each step but the last costs one unit
-abbrev pub moved_from_start : Program → Bounds → ℕ → Thread → StartAt → ℕ → Thread
-moved_from_start program lim t a LoadStart old =
-    if begins t old then going_on lim a.cursors (a.units + 1) (program.behaves t program.main 0)
-    else standing lim a.cursors a.rest (a.units + 1) a.began (Start LoadStart)
+
+-- a thread that has not begun goes on, or begins its function
+abbrev pub moved_from_start : Program → Bounds → (t : ℕ) → Thread → StartNext → Thread
+moved_from_start program lim t a (StartsOn at) = standing lim a.cursors a.rest (a.units + 1) a.began (Start at)
+moved_from_start program lim t a (Begins function argument) =
+    going_on lim a.cursors (a.units + 1) (program.behaves t function argument)
 
 -- an access goes on, or the thread is told an answer
 abbrev pub moved_from_access : Bounds → Thread → AccessNext → Thread
@@ -111,11 +118,26 @@ moved_from_free lim a address (FailsFree trap) =
     standing lim a.cursors a.rest (a.units + 1) a.began
     (StoreEnded (trap_stop (place_in_text (a.rest [])) (trap_kind address trap)))
 
+-- a thread that starts another one goes on, or is told an answer
+abbrev pub moved_from_spawn : Bounds → Thread → SpawnNext → Thread
+moved_from_spawn lim a (SpawnsOn at) = standing lim a.cursors a.rest (a.units + 1) a.began (Spawn at)
+moved_from_spawn lim a (SpawnTells answer) = going_on lim a.cursors (a.units + 1) (told a.rest answer)
+
+-- a thread that waits for another one goes on, is done, or stops by a trap
+abbrev pub moved_from_join : Bounds → Thread → JoinNext → Thread
+moved_from_join lim a (JoinsOn at) = standing lim a.cursors a.rest (a.units + 1) a.began (Join at)
+moved_from_join lim a Joined = going_on lim a.cursors (a.units + 1) (told a.rest 0)
+moved_from_join lim a (FailsJoin number) =
+    standing lim a.cursors a.rest (a.units + 1) a.began
+    (StoreEnded (trap_stop (place_in_text (a.rest [])) (BadJoin number)))
+
 abbrev pub moved_from : Program → Bounds → ℕ → Thread → Position → ℕ → Thread
-moved_from program lim t a (Start at) old = moved_from_start program lim t a at old
+moved_from program lim t a (Start at) old = moved_from_start program lim t a (start_next program t at old)
 moved_from program lim t a (Access at) old = moved_from_access lim a (access_next at old)
 moved_from program lim t a (Malloc at) old = moved_from_malloc lim a (alloc_next lim at old)
 moved_from program lim t a (Free at) old = moved_from_free lim a (freed_address at) (free_next at old)
+moved_from program lim t a (Spawn at) old = moved_from_spawn lim a (spawn_next at old)
+moved_from program lim t a (Join at) old = moved_from_join lim a (join_next t at old)
 moved_from program lim t a (DrawPrint value) old = going_on lim a.cursors (a.units + 1) (told a.rest 0)
 moved_from program lim t a (StoreEnded stop) old =
     record { rest = a.rest; position = Over stop; units = a.units; began = a.began; cursors = a.cursors }
@@ -147,6 +169,8 @@ stop_at began (Start at) = Idle
 stop_at began (Access at) = Running
 stop_at began (Malloc at) = Running
 stop_at began (Free at) = Running
+stop_at began (Spawn at) = Running
+stop_at began (Join at) = Running
 stop_at began (DrawPrint value) = Running
 stop_at began (StoreEnded stop) = if began then Running else Idle
 stop_at began (Over stop) = stop

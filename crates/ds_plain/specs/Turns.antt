@@ -8,7 +8,8 @@ use Rattle.ds_step.specs.declared.Event.TheVariants as events
 use Rattle.ds_step.specs.declared.Step.{Step}
 use Rattle.ds_plain.specs.declared.Cue.{Cue}
 use Rattle.ds_plain.specs.declared.Position.{Position}
-use Rattle.ds_plain.specs.declared.Position.TheVariants.{Start, Access, Malloc, Free, DrawPrint, StoreEnded, Over, NoRow}
+use Rattle.ds_plain.specs.declared.Position.TheVariants.{Start, Access, Malloc, Free, Spawn, Join, DrawPrint, StoreEnded}
+use Rattle.ds_plain.specs.declared.Position.TheVariants.{Over, NoRow}
 use Rattle.ds_plain.specs.Behaviour.{Program}
 use Rattle.ds_plain.specs.State.{replaced}
 use Rattle.ds_plain.specs.Thread.{Thread, first_thread, moved}
@@ -178,6 +179,8 @@ is_ended (Start at) = false
 is_ended (Access at) = false
 is_ended (Malloc at) = false
 is_ended (Free at) = false
+is_ended (Spawn at) = false
+is_ended (Join at) = false
 is_ended (DrawPrint value) = false
 is_ended (StoreEnded stop) = false
 is_ended (Over stop) = true

@@ -123,6 +123,52 @@ pub enum Request {
 pub enum StartAt {
     /// It loads its own start word, until that lets it begin.
     LoadStart,
+    /// It loads the number of the function that it is to run.
+    LoadFunction,
+    /// It loads the argument with which it is to run this function.
+    LoadArgument { function: u32 },
+}
+
+/// Where a thread stands that starts another one.
+#[derive(Clone, Copy, Debug, PartialEq, Eq)]
+pub enum SpawnAt {
+    /// It draws a number for the thread.
+    DrawThread {
+        loc: u32,
+        function: u32,
+        arg: u64,
+    },
+    /// It stores the number `n`, which it drew, at a location.
+    StoreNumber {
+        n: u8,
+        loc: u32,
+        function: u32,
+        arg: u64,
+    },
+    /// It stores the number of the function that thread `n` is to run.
+    StoreFunction {
+        n: u8,
+        function: u32,
+        arg: u64,
+    },
+    /// It stores the argument with which thread `n` is to run its function.
+    StoreArgument {
+        n: u8,
+        arg: u64,
+    },
+    /// It lets thread `n` begin.
+    OpenThread {
+        n: u8,
+    },
+}
+
+/// Where a thread stands that waits for the end of another one.
+#[derive(Clone, Copy, Debug, PartialEq, Eq)]
+pub enum JoinAt {
+    /// It loads how many numbers of threads were given out.
+    LoadGiven { number: u64 },
+    /// It loads the start word of thread `n`, until that says that the thread has ended.
+    LoadEnded { n: u8 },
 }
 
 /// What a thread makes of a part of a word in one step.
@@ -237,6 +283,10 @@ pub enum Position {
     Malloc(AllocAt),
     /// It frees a block.
     Free(FreeAt),
+    /// It starts a thread.
+    Spawn(SpawnAt),
+    /// It waits for a thread's end.
+    Join(JoinAt),
     /// It draws the next print number.
     DrawPrint { value: u64 },
     /// It marks its start word as ended.

@@ -13,3 +13,4 @@ pub mod Threaded
 pub mod Loops
 pub mod Rows
 pub mod Accesses
+pub mod Spawns

@@ -40,6 +40,8 @@ ghost use Rattle.ds_tried.specs.Rows.{BlockIsTakenAndFreed, OthersAreSeen, Stran
 ghost use Rattle.ds_tried.specs.Rows.{PagesAreLookedAtRound, NoStartsAreRefused, SecondFreesAreRefused};
 ghost use Rattle.ds_tried.specs.Accesses.{SubtractionWraps, ExpectedWordIsReplaced, NeighboursStay, OtherWritesStay};
 ghost use Rattle.ds_tried.specs.Accesses.{NarrowSumWraps, OtherByteIsLoaded};
+ghost use Rattle.ds_tried.specs.Spawns.{ThreadIsStarted, SeventeenthIsRefused, EndIsAwaited, OthersAreNotJoined};
+ghost use Rattle.ds_tried.specs.Spawns.{FunctionIsBegun, FuelIsSpentWaiting};
 ghost use Rattle.ds_tried.specs.Worked.{use_after_free_traps, pointer_store_is_noted, free_of_marked_pointer_traps};
 ghost use Rattle.ds_tried.specs.Worked.{pointer_in_register_is_not_found, free_of_null_does_nothing};
 ghost use Rattle.ds_tried.specs.Worked.{double_free_traps, free_inside_block_traps, free_of_stack_traps};
@@ -242,6 +244,16 @@ pub fn accesses_are_followed()
     ensures other_writes { OtherWritesStay }
     ensures narrow_sum { NarrowSumWraps }
     ensures other_bytes { OtherByteIsLoaded }
+{}
+
+/// The steps of a thread that starts another one, that joins one and that begins follow the step table.
+pub fn spawns_are_followed()
+    ensures started { ThreadIsStarted }
+    ensures refused { SeventeenthIsRefused }
+    ensures awaited { EndIsAwaited }
+    ensures not_joined { OthersAreNotJoined }
+    ensures begun { FunctionIsBegun }
+    ensures fuel_is_spent { FuelIsSpentWaiting }
 {}
 
 /// The steps of a malloc and a free follow the step table.
