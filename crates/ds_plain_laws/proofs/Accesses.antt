@@ -31,7 +31,7 @@ use Rattle.ds_plain.specs.Reached.{AreCursors}
 use Rattle.ds_plain.specs.Thread.{Thread, going_on, moved_from_access}
 use Rattle.ds_plain.specs.Explained.{Agrees}
 use Rattle.ds_plain_laws.proofs.Words.{agrees_loaded, agrees_stored, swap_kept, swap_made, program_word}
-use Rattle.ds_plain_laws.proofs.Phases.{Asking, asked_for, asks_for, passes_not_due}
+use Rattle.ds_plain_laws.proofs.Phases.{Asking, asked_for, asks_for, passes_not_due, goes_run}
 use Rattle.ds_plain_laws.proofs.Leaving.{leaves_all, FreesNone}
 use Rattle.ds_plain_laws.proofs.Links.{Spent, LinkedAt, paying_linked, change_request, PartLinked}
 use Rattle.ds_plain_laws.proofs.Makes.{Makes, Before, replaced_passes, all_same, answered_linked, load_word_makes}
@@ -263,7 +263,8 @@ module _ (setting : Setting) (t : ℕ) (words : List ℕ) (s : State) (before : 
   part_makes at kind a b access change old false refused kept is l none looks = record {
     allowed = λ h. absurd (cc (h));
     linked = paying_linked setting.program lim t s cursors looks rest (units + 1) began
-        (positions.Access (SwapPart access change old)) (l, refused) none (Spent l.has_begun l.asking.runs refl);
+        (positions.Access (SwapPart access change old)) (l, refused) none
+        (Spent l.has_begun (goes_run rest (s.threads t) l.asking.runs) refl);
     others = λ u ne. all_same setting t s u;
     leaves = leaves_all t s s refl refl refl;
     agrees = subst (λ (v : ℕ). AgreesWith access.loc v s) (sym kept)

@@ -8,20 +8,24 @@ use Rattle.ds_map.specs.Blocks.{block_start}
 use Rattle.ds_step.specs.declared.Step.{Step}
 use Rattle.ds_plain.specs.declared.Stop.{Stop}
 use Rattle.ds_plain.specs.declared.Stop.TheVariants.{Fuel}
-use Rattle.ds_plain.specs.declared.StartAt.TheVariants.{LoadStart}
+use Rattle.ds_plain.specs.declared.TrapKind.TheVariants.{BadJoin}
 use Rattle.ds_plain.specs.declared.Position.{Position}
-use Rattle.ds_plain.specs.declared.Position.TheVariants.{Start, Malloc, Free, DrawPrint, StoreEnded, Over, NoRow}
+use Rattle.ds_plain.specs.declared.Position.TheVariants.{Start, Malloc, Free, Spawn, Join, DrawPrint, StoreEnded, Over}
+use Rattle.ds_plain.specs.declared.Position.TheVariants.{NoRow}
 use Rattle.ds_plain.specs.declared.Position.TheVariants as positions
 use Rattle.ds_plain.specs.Behaviour.{Asked, Asks, Silent, Behaviour, place_in_text, told, Program}
+use Rattle.ds_plain.specs.Starting.{StartNext, StartsOn, Begins, start_next}
+use Rattle.ds_plain.specs.Spawning.{SpawnNext, SpawnsOn, SpawnTells, spawn_next}
+use Rattle.ds_plain.specs.Joining.{JoinNext, JoinsOn, Joined, FailsJoin, join_next}
 use Rattle.ds_plain.specs.Accessing.{AccessNext, AccessesOn, Tells, access_next}
 use Rattle.ds_plain.specs.Searching.{AllocNext, Looks, Takes, TakesNone, place_behind, alloc_next}
 use Rattle.ds_plain.specs.Freeing.{FreeNext, FreesOn, Freed, FailsFree, free_next}
-use Rattle.ds_plain.specs.Table.{begins, position_of, is_over}
+use Rattle.ds_plain.specs.Table.{position_of, is_over}
 use Rattle.ds_plain.specs.Plain.{trap_stop}
 use Rattle.ds_plain.specs.Thread.{Thread, paying, standing, arriving, going_on, moved_from_access, moved_from_malloc}
-use Rattle.ds_plain.specs.Thread.{moved_from_free, freed_address, trap_kind, moved_from, Follows}
+use Rattle.ds_plain.specs.Thread.{moved_from_start, moved_from_spawn, moved_from_join, moved_from_free, freed_address}
+use Rattle.ds_plain.specs.Thread.{trap_kind, moved_from, Follows}
 use Rattle.ds_plain.specs.History.{History, steps_of}
-use Rattle.ds_plain_laws.proofs.Choices.{of_if}
 
 -- a thread that is over makes no step
 pub over_rest : (program : Program) (lim : Bounds) (t : ℕ) (a : Thread) (ss : List Step) → is_over a.position ≡ true
@@ -35,6 +39,8 @@ HasPaid lim units (Start at) = units < lim.fuel
 HasPaid lim units (positions.Access at) = units < lim.fuel
 HasPaid lim units (Malloc at) = units < lim.fuel
 HasPaid lim units (Free at) = units < lim.fuel
+HasPaid lim units (Spawn at) = units < lim.fuel
+HasPaid lim units (Join at) = units < lim.fuel
 HasPaid lim units (DrawPrint value) = units < lim.fuel
 HasPaid lim units (StoreEnded stop) = units ≤ lim.fuel
 HasPaid lim units (Over stop) = units ≤ lim.fuel
@@ -68,6 +74,8 @@ module _ (lim : Bounds) (cursors : List ℕ) where
       paying_pays rest units began (positions.Access at) (λ lt. lt) le
   standing_pays rest units began (Malloc at) le = paying_pays rest units began (Malloc at) (λ lt. lt) le
   standing_pays rest units began (Free at) le = paying_pays rest units began (Free at) (λ lt. lt) le
+  standing_pays rest units began (Spawn at) le = paying_pays rest units began (Spawn at) (λ lt. lt) le
+  standing_pays rest units began (Join at) le = paying_pays rest units began (Join at) (λ lt. lt) le
   standing_pays rest units began (DrawPrint value) le = paying_pays rest units began (DrawPrint value) (λ lt. lt) le
   standing_pays rest units began (StoreEnded stop) le = record { paid = le; least = omega arith }
   standing_pays rest units began (Over stop) le = record { paid = le; least = omega arith }
@@ -100,6 +108,25 @@ module _ (program : Program) (lim : Bounds) (t : ℕ) where
   abbrev after : Position → Behaviour → ℕ → Bool → List ℕ → ℕ → Thread
   after p rest units began cursors old = moved_from program lim t (thread_with rest p units began cursors) p old
 
+  start_pays : (a : Thread) (next : StartNext) → a.units < lim.fuel
+      → Pays lim (a.units + 1) (moved_from_start program lim t a next)
+  start_pays a (StartsOn at) lt = standing_pays lim a.cursors a.rest (a.units + 1) a.began (Start at) (omega arith)
+  start_pays a (Begins function argument) lt =
+      going_pays lim a.cursors (a.units + 1) (program.behaves t function argument) (omega arith)
+
+  spawn_pays : (a : Thread) (next : SpawnNext) → a.units < lim.fuel
+      → Pays lim (a.units + 1) (moved_from_spawn lim a next)
+  spawn_pays a (SpawnsOn at) lt = standing_pays lim a.cursors a.rest (a.units + 1) a.began (Spawn at) (omega arith)
+  spawn_pays a (SpawnTells answer) lt = going_pays lim a.cursors (a.units + 1) (told a.rest answer) (omega arith)
+
+  join_pays : (a : Thread) (next : JoinNext) → a.units < lim.fuel
+      → Pays lim (a.units + 1) (moved_from_join lim a next)
+  join_pays a (JoinsOn at) lt = standing_pays lim a.cursors a.rest (a.units + 1) a.began (Join at) (omega arith)
+  join_pays a Joined lt = going_pays lim a.cursors (a.units + 1) (told a.rest 0) (omega arith)
+  join_pays a (FailsJoin number) lt =
+      standing_pays lim a.cursors a.rest (a.units + 1) a.began
+      (StoreEnded (trap_stop (place_in_text (a.rest [])) (BadJoin number))) (omega arith)
+
   access_pays : (a : Thread) (next : AccessNext) → a.units < lim.fuel
       → Pays lim (a.units + 1) (moved_from_access lim a next)
   access_pays a (AccessesOn at) lt =
@@ -127,18 +154,18 @@ module _ (program : Program) (lim : Bounds) (t : ℕ) where
   step_pays : (p : Position) (rest : Behaviour) (units : ℕ) (began : Bool) (cursors : List ℕ) (old : ℕ)
       → units < lim.fuel → is_over p ≡ false → ((stop : Stop) → p ≡ StoreEnded stop → ⊥)
       → Pays lim (units + 1) (after p rest units began cursors old)
-  step_pays (Start LoadStart) rest units began cursors old lt over goes =
-      of_if (Pays lim (units + 1)) (begins t old)
-      (going_on lim cursors (units + 1) (program.behaves t program.main 0))
-      (standing lim cursors rest (units + 1) began (Start LoadStart))
-      (going_pays lim cursors (units + 1) (program.behaves t program.main 0) (omega arith))
-      (standing_pays lim cursors rest (units + 1) began (Start LoadStart) (omega arith))
+  step_pays (Start at) rest units began cursors old lt over goes =
+      start_pays (thread_with rest (Start at) units began cursors) (start_next program t at old) lt
   step_pays (positions.Access at) rest units began cursors old lt over goes =
       access_pays (thread_with rest (positions.Access at) units began cursors) (access_next at old) lt
   step_pays (Malloc at) rest units began cursors old lt over goes =
       malloc_pays (thread_with rest (Malloc at) units began cursors) (alloc_next lim at old) lt
   step_pays (Free at) rest units began cursors old lt over goes =
       free_pays (thread_with rest (Free at) units began cursors) (freed_address at) (free_next at old) lt
+  step_pays (Spawn at) rest units began cursors old lt over goes =
+      spawn_pays (thread_with rest (Spawn at) units began cursors) (spawn_next at old) lt
+  step_pays (Join at) rest units began cursors old lt over goes =
+      join_pays (thread_with rest (Join at) units began cursors) (join_next t at old) lt
   step_pays (DrawPrint value) rest units began cursors old lt over goes =
       going_pays lim cursors (units + 1) (told rest 0) (omega arith)
   step_pays (StoreEnded stop) rest units began cursors old lt over goes = absurd (goes stop refl)
@@ -154,6 +181,8 @@ module _ (program : Program) (lim : Bounds) (t : ℕ) where
   trace_length [] rest (positions.Access at) units began cursors paid follows = omega arith
   trace_length [] rest (Malloc at) units began cursors paid follows = omega arith
   trace_length [] rest (Free at) units began cursors paid follows = omega arith
+  trace_length [] rest (Spawn at) units began cursors paid follows = omega arith
+  trace_length [] rest (Join at) units began cursors paid follows = omega arith
   trace_length [] rest (DrawPrint value) units began cursors paid follows = omega arith
   trace_length [] rest (StoreEnded stop) units began cursors paid follows = omega arith
   trace_length [] rest (Over stop) units began cursors paid follows = omega arith
@@ -181,6 +210,16 @@ module _ (program : Program) (lim : Bounds) (t : ℕ) where
   trace_length (s ∷ ss) rest (Free at) units began cursors paid follows =
       let a : Thread = after (Free at) rest units began cursors s.old in
       let pays = step_pays (Free at) rest units began cursors s.old paid follows.0 (λ stop e. cc) in
+      let more = trace_length ss a.rest a.position a.units a.began a.cursors pays.paid follows.2 in
+      omega (arith, more, pays.least)
+  trace_length (s ∷ ss) rest (Spawn at) units began cursors paid follows =
+      let a : Thread = after (Spawn at) rest units began cursors s.old in
+      let pays = step_pays (Spawn at) rest units began cursors s.old paid follows.0 (λ stop e. cc) in
+      let more = trace_length ss a.rest a.position a.units a.began a.cursors pays.paid follows.2 in
+      omega (arith, more, pays.least)
+  trace_length (s ∷ ss) rest (Join at) units began cursors paid follows =
+      let a : Thread = after (Join at) rest units began cursors s.old in
+      let pays = step_pays (Join at) rest units began cursors s.old paid follows.0 (λ stop e. cc) in
       let more = trace_length ss a.rest a.position a.units a.began a.cursors pays.paid follows.2 in
       omega (arith, more, pays.least)
   trace_length (s ∷ ss) rest (DrawPrint value) units began cursors paid follows =

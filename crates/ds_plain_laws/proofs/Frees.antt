@@ -22,8 +22,8 @@ use Rattle.ds_plain.specs.declared.Position.TheVariants.{Free}
 use Rattle.ds_plain.specs.declared.Request.{Request}
 use Rattle.ds_plain.specs.declared.Request.TheVariants as requests
 use Rattle.ds_plain.specs.Behaviour.{Behaviour, place_in_text, told}
-use Rattle.ds_plain.specs.State.{Use, Live, Freeing, Block, block_in, block_word, use_word, Doing, Phase, Going, State}
-use Rattle.ds_plain.specs.State.{Setting, Note, replaced}
+use Rattle.ds_plain.specs.State.{Use, Live, Freeing, Block, block_in, block_word, use_word, Doing, State}
+use Rattle.ds_plain.specs.State.{Setting, replaced}
 use Rattle.ds_plain.specs.State as states
 use Rattle.ds_plain.specs.Plain.{Allowed, Frees, IsLive, IsNotFreeable, so_far, answered, phase_with, trap_stop}
 use Rattle.ds_plain.specs.Plain.{phase_answered, with_block, noted_for, free_trap, trap_of, place_of_phase, request_of}

@@ -4,7 +4,8 @@ use Rattle.std.proofs.Common.{◌∙◌, subst, inl, inr, ◌⊎◌, arith}
 use Rattle.std.proofs.lemmas.Bool.{cases_eq}
 use Rattle.ds_plain.specs.declared.FreeAt.TheVariants as frees
 use Rattle.ds_plain.specs.declared.Position.{Position}
-use Rattle.ds_plain.specs.declared.Position.TheVariants.{Start, Malloc, Free, DrawPrint, StoreEnded, Over, NoRow}
+use Rattle.ds_plain.specs.declared.Position.TheVariants.{Start, Malloc, Free, Spawn, Join, DrawPrint, StoreEnded, Over}
+use Rattle.ds_plain.specs.declared.Position.TheVariants.{NoRow}
 use Rattle.ds_plain.specs.declared.Position.TheVariants as positions
 use Rattle.ds_plain.specs.State.{Freeing, Block, State, replaced}
 use Rattle.ds_plain.specs.State as states
@@ -104,6 +105,8 @@ FreesAt t blocks (Free (frees.LoadPage address)) = FreesNone t blocks
 FreesAt t blocks (Free (frees.LoadBlock address place)) = FreesNone t blocks
 FreesAt t blocks (Free (frees.SwapBlock address place life)) = FreesNone t blocks
 FreesAt t blocks (Free (frees.StoreFree place life)) = FreesOnly t place blocks
+FreesAt t blocks (Spawn at) = FreesNone t blocks
+FreesAt t blocks (Join at) = FreesNone t blocks
 FreesAt t blocks (DrawPrint value) = FreesNone t blocks
 FreesAt t blocks (StoreEnded stop) = Unit {0}
 FreesAt t blocks (Over stop) = Unit {0}
@@ -118,6 +121,8 @@ frees_anywhere t blocks (Free (frees.LoadPage address)) none = none
 frees_anywhere t blocks (Free (frees.LoadBlock address place)) none = none
 frees_anywhere t blocks (Free (frees.SwapBlock address place life)) none = none
 frees_anywhere t blocks (Free (frees.StoreFree place life)) none = λ other is. absurd (none other is)
+frees_anywhere t blocks (Spawn at) none = none
+frees_anywhere t blocks (Join at) none = none
 frees_anywhere t blocks (DrawPrint value) none = none
 frees_anywhere t blocks (StoreEnded stop) none = tt
 frees_anywhere t blocks (Over stop) none = tt
@@ -139,6 +144,8 @@ frees_on u t s s' p ne leaves held = by p held
     by (Free (frees.LoadBlock address place)) f = none f
     by (Free (frees.SwapBlock address place life)) f = none f
     by (Free (frees.StoreFree place life)) f = λ other is. f other (leaves.begun u other ne is)
+    by (Spawn at) f = none f
+    by (Join at) f = none f
     by (DrawPrint value) f = none f
     by (StoreEnded stop) f = tt
     by (Over stop) f = tt

@@ -1,5 +1,5 @@
 -- How a recorded thread and its phase in the plain machine go together, and that steps of other threads keep it so.
-use Rattle.std.proofs.Common.{◌≡◌, ℕ, ◌+◌, ◌≤◌, ◌==◌, Bool, true, false, if◌then◌else◌, nat_lt, nat_le}
+use Rattle.std.proofs.Common.{◌≡◌, ℕ, ◌+◌, ◌≤◌, Bool, true, false, if◌then◌else◌, nat_lt, nat_le}
 use Rattle.std.proofs.Common.{List, [], Option, Some, None, refl, sym, ap, ◌∙◌, arith, slice_index}
 use Rattle.ds_map.specs.Bounds.{Bounds, IsInRange}
 use Rattle.ds_map.specs.Blocks.{Pages, class_of, place_starting}
@@ -10,7 +10,10 @@ use Rattle.ds_plain.specs.declared.Stop.TheVariants.{Idle, Running, Returned, Tr
 use Rattle.ds_plain.specs.declared.Request.{Request}
 use Rattle.ds_plain.specs.declared.Request.TheVariants as requests
 use Rattle.ds_plain.specs.declared.StartAt.{StartAt}
-use Rattle.ds_plain.specs.declared.StartAt.TheVariants.{LoadStart}
+use Rattle.ds_plain.specs.declared.SpawnAt.{SpawnAt}
+use Rattle.ds_plain.specs.declared.SpawnAt.TheVariants.{DrawThread, StoreNumber, StoreFunction, StoreArgument, OpenThread}
+use Rattle.ds_plain.specs.declared.JoinAt.{JoinAt}
+use Rattle.ds_plain.specs.declared.JoinAt.TheVariants.{LoadGiven, LoadEnded}
 use Rattle.ds_plain.specs.declared.Change.{Change}
 use Rattle.ds_plain.specs.declared.Change.TheVariants.{Put, Combine, Replace}
 use Rattle.ds_plain.specs.declared.AccessAt.{AccessAt}
@@ -20,12 +23,12 @@ use Rattle.ds_plain.specs.declared.AllocAt.TheVariants as allocs
 use Rattle.ds_plain.specs.declared.FreeAt.{FreeAt}
 use Rattle.ds_plain.specs.declared.FreeAt.TheVariants as frees
 use Rattle.ds_plain.specs.declared.Position.{Position}
-use Rattle.ds_plain.specs.declared.Position.TheVariants.{Start, Malloc, Free, DrawPrint, StoreEnded, Over, NoRow}
+use Rattle.ds_plain.specs.declared.Position.TheVariants.{Start, Malloc, Free, Spawn, Join, DrawPrint, StoreEnded, Over}
+use Rattle.ds_plain.specs.declared.Position.TheVariants.{NoRow}
 use Rattle.ds_plain.specs.declared.Position.TheVariants as positions
-use Rattle.ds_plain.specs.Behaviour.{Asked, Asks, Silent, Behaviour, Program}
+use Rattle.ds_plain.specs.Behaviour.{Asked, Asks, Silent, Behaviour, told, Program}
 use Rattle.ds_plain.specs.Parts.{is_whole}
-use Rattle.ds_plain.specs.State.{Freeing, Block, block_in, Phase, Stopped, State, first_phase, stop_of_phase}
-use Rattle.ds_plain.specs.State.{first_left, places_wanted, untouched, come_to}
+use Rattle.ds_plain.specs.State.{Freeing, Block, block_in, Phase, Stopped, State, stop_of_phase, first_left, places_wanted}
 use Rattle.ds_plain.specs.Accessing.{is_refused}
 use Rattle.ds_plain.specs.Searching.{search_from, page_in}
 use Rattle.ds_plain.specs.Freeing.{is_freeable}
@@ -37,8 +40,8 @@ use Rattle.ds_alloc_laws.specs.Laws.{ClassesAreFew, class_at}
 use Rattle.ds_plain_laws.proofs.Choices.{of_if}
 use Rattle.ds_plain_laws.proofs.Heap.{starts_on}
 use Rattle.ds_plain_laws.proofs.Leaving.{Leaves, FreesNone, FreesAt, frees_anywhere, frees_on}
-use Rattle.ds_plain_laws.proofs.Phases.{Runs, Asking, Halts, Passes, runs_on, runs_same, asking_on, halts_on}
-use Rattle.ds_plain_laws.proofs.Phases.{start_idle, start_on, stopped_on}
+use Rattle.ds_plain_laws.proofs.Phases.{Runs, Asking, Halts, Goes, goes_run, Draws, Fresh, IsWaiting, MayPass, runs_same}
+use Rattle.ds_plain_laws.proofs.Phases.{asking_on, halts_on, goes_on, draws_on, fresh_on, waits_idle, waiting_on, stopped_on}
 
 -- what is known of a malloc's rows
 pub record Walks : Type 0 where
@@ -55,12 +58,12 @@ pub data Ending (program : Program) (t : ℕ) (rest : Behaviour) (began : Bool) 
     : Type 0 where
   Finishes : began ≡ true → Asking rest phase (requests.Stop stop) → Ending program t rest began phase stop
   Trapped : began ≡ true → Halts rest phase stop → Ending program t rest began phase stop
-  Spent : began ≡ true → Runs rest phase → stop ≡ Fuel → Ending program t rest began phase stop
-  Never : began ≡ false → phase ≡ first_phase program t → stop ≡ Fuel → Ending program t rest began phase stop
+  Spent : began ≡ true → Goes phase → stop ≡ Fuel → Ending program t rest began phase stop
+  Never : began ≡ false → IsWaiting program t phase → stop ≡ Fuel → Ending program t rest began phase stop
 
 -- the phase of a thread that has not begun
-abbrev pub StartLinked : Program → ℕ → Bool → Phase → StartAt → Type 0
-StartLinked program t began phase LoadStart = (began ≡ false) × (phase ≡ first_phase program t)
+abbrev pub StartLinked : Program → ℕ → Bool → Phase → Type 0
+StartLinked program t began phase = (began ≡ false) × IsWaiting program t phase
 
 -- the request of a thread that changes a part of a word so
 abbrev pub change_request : Access → Change → Request
@@ -132,14 +135,33 @@ FreeLinked lim t rest began pages blocks phase (frees.StoreFree place life) =
     (address : ℕ) × FreeAsking rest began blocks phase address × (place_starting lim pages address ≡ Some place)
     × (blocks place ≡ block_in life (Freeing t))
 
+-- the phase of a thread that starts another one: it is told the answer as it has stored the number, before it lets the
+-- other one begin
+abbrev pub SpawnLinked : Bounds → Behaviour → Bool → (ℕ → Block) → Phase → SpawnAt → Type 0
+SpawnLinked lim rest began blocks phase (DrawThread loc function arg) =
+    (began ≡ true) × Asking rest phase (requests.Spawn loc function arg)
+SpawnLinked lim rest began blocks phase (StoreNumber n loc function arg) =
+    (began ≡ true) × Draws rest phase n loc function arg
+SpawnLinked lim rest began blocks phase (StoreFunction n function arg) =
+    (began ≡ true) × Fresh lim blocks (told rest 0) phase
+SpawnLinked lim rest began blocks phase (StoreArgument n arg) = (began ≡ true) × Fresh lim blocks (told rest 0) phase
+SpawnLinked lim rest began blocks phase (OpenThread n) = (began ≡ true) × Fresh lim blocks (told rest 0) phase
+
+-- the phase of a thread that waits for another one
+abbrev pub JoinLinked : Behaviour → Bool → Phase → JoinAt → Type 0
+JoinLinked rest began phase (LoadGiven number) = (began ≡ true) × Asking rest phase (requests.Join number)
+JoinLinked rest began phase (LoadEnded n) = (began ≡ true) × Asking rest phase (requests.Join n)
+
 module _ (program : Program) (lim : Bounds) (t : ℕ) where
   -- the state of a thread that stands at a position
   abbrev pub Linked : Behaviour → Bool → State → Position → Type 0
-  Linked rest began s (Start at) = StartLinked program t began (s.threads t) at
+  Linked rest began s (Start at) = StartLinked program t began (s.threads t)
   Linked rest began s (positions.Access at) = AccessLinked rest began (s.threads t) at
   Linked rest began s (Malloc at) = MallocLinked lim rest began s.pages (s.threads t) at
   Linked rest began s (Free at) =
       FreeLinked lim t rest began s.pages s.blocks (s.threads t) at × IsFreeAt lim at
+  Linked rest began s (Spawn at) = SpawnLinked lim rest began s.blocks (s.threads t) at
+  Linked rest began s (Join at) = JoinLinked rest began (s.threads t) at
   Linked rest began s (DrawPrint value) = Asking rest (s.threads t) (requests.Print value)
   Linked rest began s (StoreEnded stop) = Ending program t rest began (s.threads t) stop
   Linked rest began s (Over stop) = s.threads t ≡ Stopped stop
@@ -159,15 +181,26 @@ module _ (program : Program) (lim : Bounds) (t : ℕ) where
 runs_stop : (rest : Behaviour) (phase : Phase) → Runs rest phase → Running ≡ stop_of_phase phase
 runs_stop rest phase runs = sym (ap stop_of_phase runs.going)
 
-start_stop : (program : Program) (t : ℕ) (phase : Phase) → phase ≡ first_phase program t → Idle ≡ stop_of_phase phase
-start_stop program t phase is = sym (ap stop_of_phase is ∙ start_idle (t == 0) program.main)
+goes_stop : (phase : Phase) → Goes phase → Running ≡ stop_of_phase phase
+goes_stop phase goes = sym (ap stop_of_phase goes.going)
+
+start_stop : (program : Program) (t : ℕ) (phase : Phase) → IsWaiting program t phase → Idle ≡ stop_of_phase phase
+start_stop program t phase waiting = sym (waits_idle phase waiting.waits)
+
+spawn_stop : (lim : Bounds) (rest : Behaviour) (began : Bool) (blocks : ℕ → Block) (phase : Phase) (at : SpawnAt)
+    → SpawnLinked lim rest began blocks phase at → Running ≡ stop_of_phase phase
+spawn_stop lim rest began blocks phase (DrawThread loc function arg) l = runs_stop rest phase l.1.runs
+spawn_stop lim rest began blocks phase (StoreNumber n loc function arg) l = sym (ap stop_of_phase l.1.going)
+spawn_stop lim rest began blocks phase (StoreFunction n function arg) l = runs_stop (told rest 0) phase l.1.runs
+spawn_stop lim rest began blocks phase (StoreArgument n arg) l = runs_stop (told rest 0) phase l.1.runs
+spawn_stop lim rest began blocks phase (OpenThread n) l = runs_stop (told rest 0) phase l.1.runs
 
 last_stop : (b b' : Bool) → b ≡ b' → (if b then Running else Idle) ≡ (if b' then Running else Idle)
 last_stop b b' is = ap (λ b. if b then Running else Idle) is
 
 pub linked_stop : (program : Program) (lim : Bounds) (t : ℕ) (rest : Behaviour) (began : Bool) (s : State) (p : Position)
     → Linked program lim t rest began s p → stop_at began p ≡ stop_of_phase (s.threads t)
-linked_stop program lim t rest began s (Start LoadStart) l = start_stop program t (s.threads t) l.1
+linked_stop program lim t rest began s (Start at) l = start_stop program t (s.threads t) l.1
 linked_stop program lim t rest began s (positions.Access (LoadWord loc)) l = runs_stop rest (s.threads t) l.2.runs
 linked_stop program lim t rest began s (positions.Access (StoreWord loc value)) l =
     runs_stop rest (s.threads t) l.3.runs
@@ -188,13 +221,16 @@ linked_stop program lim t rest began s (Free (frees.SwapBlock address place life
     runs_stop rest (s.threads t) l.0.0.asks.asking.runs
 linked_stop program lim t rest began s (Free (frees.StoreFree place life)) l =
     runs_stop rest (s.threads t) l.0.1.asking.runs
+linked_stop program lim t rest began s (Spawn at) l = spawn_stop lim rest began s.blocks (s.threads t) at l
+linked_stop program lim t rest began s (Join (LoadGiven number)) l = runs_stop rest (s.threads t) l.1.runs
+linked_stop program lim t rest began s (Join (LoadEnded n)) l = runs_stop rest (s.threads t) l.1.runs
 linked_stop program lim t rest began s (DrawPrint value) l = runs_stop rest (s.threads t) l.runs
 linked_stop program lim t rest began s (StoreEnded stop) (Finishes b asking) =
     last_stop began true b ∙ runs_stop rest (s.threads t) asking.runs
 linked_stop program lim t rest began s (StoreEnded stop) (Trapped b halts) =
     last_stop began true b ∙ sym (ap stop_of_phase halts.going)
-linked_stop program lim t rest began s (StoreEnded stop) (Spent b runs fuel) =
-    last_stop began true b ∙ runs_stop rest (s.threads t) runs
+linked_stop program lim t rest began s (StoreEnded stop) (Spent b goes fuel) =
+    last_stop began true b ∙ goes_stop (s.threads t) goes
 linked_stop program lim t rest began s (StoreEnded stop) (Never b is fuel) =
     last_stop began false b ∙ start_stop program t (s.threads t) is
 linked_stop program lim t rest began s (Over stop) l = sym (ap stop_of_phase l)
@@ -203,19 +239,19 @@ linked_stop program lim t rest began s NoRow l = runs_stop rest (s.threads t) l.
 -- STEPS OF OTHER THREADS
 
 ending_on : (program : Program) (t : ℕ) (rest : Behaviour) (began : Bool) (phase phase' : Phase) (stop : Stop)
-    → Passes phase phase' → Ending program t rest began phase stop → Ending program t rest began phase' stop
+    → MayPass phase phase' → Ending program t rest began phase stop → Ending program t rest began phase' stop
 ending_on program t rest began phase phase' stop passes (Finishes b asking) =
     Finishes b (asking_on rest phase phase' (requests.Stop stop) asking passes)
 ending_on program t rest began phase phase' stop passes (Trapped b halts) =
     Trapped b (halts_on rest phase phase' stop halts passes)
-ending_on program t rest began phase phase' stop passes (Spent b runs fuel) =
-    Spent b (runs_on rest phase phase' runs passes) fuel
-ending_on program t rest began phase phase' stop passes (Never b is fuel) =
-    Never b (start_on (t == 0) program.main phase phase' is passes) fuel
+ending_on program t rest began phase phase' stop passes (Spent b goes fuel) =
+    Spent b (goes_on phase phase' goes passes) fuel
+ending_on program t rest began phase phase' stop passes (Never b waiting fuel) =
+    Never b (waiting_on program t phase phase' waiting passes) fuel
 
 -- of thread u
 module _ (program : Program) (lim : Bounds) (u t : ℕ) (s s' : State) (ne : u ≡ t → ⊥)
-    (passes : Passes (s.threads t) (s'.threads t)) (leaves : Leaves u s s') where
+    (passes : MayPass (s.threads t) (s'.threads t)) (leaves : Leaves u s s') where
   sized_on : (at : AllocAt) → IsSized lim s.pages at → IsSized lim s'.pages at
   sized_on (allocs.LoadPage search) sized = tt
   sized_on (allocs.SwapPage search) sized = tt
@@ -271,6 +307,19 @@ module _ (program : Program) (lim : Bounds) (u t : ℕ) (s s' : State) (ne : u �
     leaves.freed t place ne (ap (λ (b : Block). b.state) l.3) ∙ l.3,
   )
 
+  answered_on : (rest : Behaviour) → Fresh lim s.blocks rest (s.threads t) → Fresh lim s'.blocks rest (s'.threads t)
+  answered_on rest fresh = fresh_on lim s.blocks s'.blocks rest (s.threads t) (s'.threads t) leaves.lives fresh passes
+
+  spawn_on : (rest : Behaviour) (began : Bool) (at : SpawnAt) → SpawnLinked lim rest began s.blocks (s.threads t) at
+      → SpawnLinked lim rest began s'.blocks (s'.threads t) at
+  spawn_on rest began (DrawThread loc function arg) l =
+      (l.0, asking_on rest (s.threads t) (s'.threads t) (requests.Spawn loc function arg) l.1 passes)
+  spawn_on rest began (StoreNumber n loc function arg) l =
+      (l.0, draws_on rest (s.threads t) (s'.threads t) n loc function arg l.1 passes)
+  spawn_on rest began (StoreFunction n function arg) l = (l.0, answered_on (told rest 0) l.1)
+  spawn_on rest began (StoreArgument n arg) l = (l.0, answered_on (told rest 0) l.1)
+  spawn_on rest began (OpenThread n) l = (l.0, answered_on (told rest 0) l.1)
+
   part_on : (rest : Behaviour) (began : Bool) (access : Access) (change : Change)
       → PartLinked rest began (s.threads t) access change → PartLinked rest began (s'.threads t) access change
   part_on rest began access change l = record {
@@ -281,8 +330,7 @@ module _ (program : Program) (lim : Bounds) (u t : ℕ) (s s' : State) (ne : u �
 
   stands_on : (rest : Behaviour) (began : Bool) (p : Position) → Linked program lim t rest began s p
       → Linked program lim t rest began s' p
-  stands_on rest began (Start LoadStart) l =
-      (l.0, start_on (t == 0) program.main (s.threads t) (s'.threads t) l.1 passes)
+  stands_on rest began (Start at) l = (l.0, waiting_on program t (s.threads t) (s'.threads t) l.1 passes)
   stands_on rest began (positions.Access (LoadWord loc)) l =
       (l.0, l.1, asking_on rest (s.threads t) (s'.threads t) (requests.Load l.0) l.2 passes)
   stands_on rest began (positions.Access (StoreWord loc value)) l =
@@ -296,6 +344,11 @@ module _ (program : Program) (lim : Bounds) (u t : ℕ) (s s' : State) (ne : u �
       (part_on rest began access change l.0, l.1)
   stands_on rest began (Malloc at) l = malloc_on rest began at l
   stands_on rest began (Free at) l = (free_on rest began at l.0, l.1)
+  stands_on rest began (Spawn at) l = spawn_on rest began at l
+  stands_on rest began (Join (LoadGiven number)) l =
+      (l.0, asking_on rest (s.threads t) (s'.threads t) (requests.Join number) l.1 passes)
+  stands_on rest began (Join (LoadEnded n)) l =
+      (l.0, asking_on rest (s.threads t) (s'.threads t) (requests.Join n) l.1 passes)
   stands_on rest began (DrawPrint value) l =
       asking_on rest (s.threads t) (s'.threads t) (requests.Print value) l passes
   stands_on rest began (StoreEnded stop) l = ending_on program t rest began (s.threads t) (s'.threads t) stop passes l
@@ -326,34 +379,48 @@ module _ (program : Program) (lim : Bounds) (t : ℕ) (s : State) (cursors : Lis
       (record { stands = spent; frees_so = tt; looks = looks })
 
   -- a thread that has not begun and pays for one more load, or ends
-  pub waiting_linked : (rest : Behaviour) (units : ℕ) (began : Bool) → began ≡ false
-      → s.threads t ≡ first_phase program t → FreesNone t s.blocks
-      → IsLinked program lim t s (standing lim cursors rest units began (Start LoadStart))
-  waiting_linked rest units began b is none =
-      paying_linked rest units began (Start LoadStart) (b, is) none (Never b is refl)
+  pub waiting_linked : (rest : Behaviour) (units : ℕ) (began : Bool) (at : StartAt) → began ≡ false
+      → IsWaiting program t (s.threads t) → FreesNone t s.blocks
+      → IsLinked program lim t s (standing lim cursors rest units began (Start at))
+  waiting_linked rest units began at b waiting none =
+      paying_linked rest units began (Start at) (b, waiting) none (Never b waiting refl)
 
   -- a thread that runs and goes on with a malloc or a free
   pub malloc_goes : (rest : Behaviour) (units : ℕ) (began : Bool) (at : AllocAt)
       → MallocLinked lim rest began s.pages (s.threads t) at → FreesNone t s.blocks
       → IsLinked program lim t s (standing lim cursors rest units began (Malloc at))
   malloc_goes rest units began at l none =
-      paying_linked rest units began (Malloc at) l none (Spent l.has_begun l.asking.runs refl)
+      paying_linked rest units began (Malloc at) l none
+      (Spent l.has_begun (goes_run rest (s.threads t) l.asking.runs) refl)
 
   pub free_goes : (rest : Behaviour) (units : ℕ) (began : Bool) (at : FreeAt)
       → Linked program lim t rest began s (Free at) → FreesAt t s.blocks (Free at) → began ≡ true
       → Runs rest (s.threads t) → IsLinked program lim t s (standing lim cursors rest units began (Free at))
-  free_goes rest units began at l held b runs = paying_linked rest units began (Free at) l held (Spent b runs refl)
+  free_goes rest units began at l held b runs =
+      paying_linked rest units began (Free at) l held (Spent b (goes_run rest (s.threads t) runs) refl)
+
+  -- a thread that runs and goes on with starting or joining another one
+  pub spawn_goes : (rest : Behaviour) (units : ℕ) (began : Bool) (at : SpawnAt)
+      → SpawnLinked lim rest began s.blocks (s.threads t) at → began ≡ true → Goes (s.threads t)
+      → FreesNone t s.blocks → IsLinked program lim t s (standing lim cursors rest units began (Spawn at))
+  spawn_goes rest units began at l b goes none = paying_linked rest units began (Spawn at) l none (Spent b goes refl)
+
+  pub join_goes : (rest : Behaviour) (units : ℕ) (began : Bool) (at : JoinAt)
+      → JoinLinked rest began (s.threads t) at → began ≡ true → Goes (s.threads t)
+      → FreesNone t s.blocks → IsLinked program lim t s (standing lim cursors rest units began (Join at))
+  join_goes rest units began at l b goes none = paying_linked rest units began (Join at) l none (Spent b goes refl)
 
   -- a thread that runs and comes to its request
-  module _ (walks : Walks) (range : IsInRange lim) (rest : Behaviour) (come : s.threads t ≡ come_to lim s rest)
+  module _ (walks : Walks) (range : IsInRange lim) (rest : Behaviour) (come : Fresh lim s.blocks rest (s.threads t))
       (none : FreesNone t s.blocks) where
     abbrev fresh : Runs rest (s.threads t)
-    fresh = record { doing = untouched lim s (rest []); going = come; not_spawned = refl; not_ended = refl }
+    fresh = come.runs
 
     asking_linked : (units : ℕ) (p : Position) → Linked program lim t rest true s p
         → IsLinked program lim t s (paying lim cursors rest units true p)
     asking_linked units p here =
-        paying_linked rest units true p here (frees_anywhere t s.blocks p none) (Spent refl fresh refl)
+        paying_linked rest units true p here (frees_anywhere t s.blocks p none)
+        (Spent refl (goes_run rest (s.threads t) fresh) refl)
 
     -- a thread that asks for what no row is for
     rowless_linked : (units : ℕ) (request : Request) → Asking rest (s.threads t) request
@@ -402,7 +469,7 @@ module _ (program : Program) (lim : Bounds) (t : ℕ) (s : State) (cursors : Lis
           asking = record { runs = fresh; begun = begun; place = place; asks = asks };
           wanted = is;
           reached = known.0;
-          left = ap (first_left lim) asks ∙ (ap (places_wanted lim) is ∙ sym known.1);
+          left = come.left ∙ (ap (first_left lim) asks ∙ (ap (places_wanted lim) is ∙ sym known.1));
           sized = tt;
         })
 
@@ -416,8 +483,8 @@ module _ (program : Program) (lim : Bounds) (t : ℕ) (s : State) (cursors : Lis
           record {
             has_begun = refl;
             asking = record { runs = fresh; begun = begun; place = place; asks = asks };
-            older = λ place. omega arith;
-            none_due = refl;
+            older = come.older;
+            none_due = come.none_due;
           },
           is,
         )
@@ -456,11 +523,11 @@ module _ (program : Program) (lim : Bounds) (t : ℕ) (s : State) (cursors : Lis
     standing_linked units begun place (requests.Print value) asks =
         asking_linked units (DrawPrint value) (record { runs = fresh; begun = begun; place = place; asks = asks })
     standing_linked units begun place (requests.Spawn loc function arg) asks =
-        rowless_linked units (requests.Spawn loc function arg)
-        (record { runs = fresh; begun = begun; place = place; asks = asks })
+        asking_linked units (Spawn (DrawThread loc function arg))
+        (refl, record { runs = fresh; begun = begun; place = place; asks = asks })
     standing_linked units begun place (requests.Join number) asks =
-        rowless_linked units (requests.Join number)
-        (record { runs = fresh; begun = begun; place = place; asks = asks })
+        asking_linked units (Join (LoadGiven number))
+        (refl, record { runs = fresh; begun = begun; place = place; asks = asks })
     standing_linked units begun place (requests.Stop stop) asks =
         stopping_linked units stop (record { runs = fresh; begun = begun; place = place; asks = asks })
 
@@ -471,9 +538,9 @@ module _ (program : Program) (lim : Bounds) (t : ℕ) (s : State) (cursors : Lis
         (standing lim cursors rest (units + begun) true (position_of lim cursors request))
         (record { rest = rest; position = StoreEnded Fuel; units = lim.fuel; began = true; cursors = cursors })
         (standing_linked (units + begun) begun place request asks)
-        (record { stands = Spent refl fresh refl; frees_so = tt; looks = looks })
+        (record { stands = Spent refl (goes_run rest (s.threads t) fresh) refl; frees_so = tt; looks = looks })
     arriving_linked units Silent asks =
-        record { stands = Spent refl fresh refl; frees_so = tt; looks = looks }
+        record { stands = Spent refl (goes_run rest (s.threads t) fresh) refl; frees_so = tt; looks = looks }
 
     pub going_linked : (units : ℕ) → IsLinked program lim t s (going_on lim cursors units rest)
     going_linked units = arriving_linked units (rest []) refl

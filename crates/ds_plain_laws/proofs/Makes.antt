@@ -1,8 +1,7 @@
 -- What each row of the step table does: its event is allowed, and words, state and threads go together afterwards.
-use Rattle.std.proofs.Common.{◌≡◌, ℕ, ◌+◌, ◌^◌, ◌<◌, ◌≤◌, ◌==◌, Bool, true, false, if◌then◌else◌, List, [], ◌∷◌}
+use Rattle.std.proofs.Common.{◌≡◌, ℕ, ◌+◌, ◌^◌, ◌<◌, ◌≤◌, Bool, true, false, if◌then◌else◌, List, [], ◌∷◌}
 use Rattle.std.proofs.Common.{◌++◌, length, refl, sym, ap, ◌∙◌, subst, inl, inr, arith}
 use Rattle.std.specs.Option.{unwrap_or}
-use Rattle.std.proofs.lemmas.Bool.{eq-eqb}
 use Rattle.std.proofs.lemmas.List.{length_push}
 use Rattle.ds_map.specs.Bounds.{IsInRange}
 use Rattle.ds_map.specs.Words.{first_program_word, word_of}
@@ -13,27 +12,28 @@ use Rattle.ds_step.specs.Word.{words_after, answer_on}
 use Rattle.ds_plain.specs.declared.Stop.{Stop}
 use Rattle.ds_plain.specs.declared.Stop.TheVariants.{Idle, Running, Returned, Trap, Full, Fuel}
 use Rattle.ds_plain.specs.declared.Request.TheVariants as requests
-use Rattle.ds_plain.specs.declared.StartAt.TheVariants.{LoadStart}
 use Rattle.ds_plain.specs.declared.AccessAt.TheVariants.{LoadWord, StoreWord}
-use Rattle.ds_plain.specs.declared.Position.TheVariants.{Start, DrawPrint, StoreEnded, Over}
+use Rattle.ds_plain.specs.declared.Position.TheVariants.{DrawPrint, StoreEnded, Over}
 use Rattle.ds_plain.specs.declared.Position.TheVariants as positions
 use Rattle.ds_plain.specs.Behaviour.{Behaviour, told}
-use Rattle.ds_plain.specs.State.{Doing, Phase, NotGiven, Ready, Going, Stopped, State, Setting}
+use Rattle.ds_plain.specs.State.{Doing, Phase, Going, Stopped, State, Setting}
 use Rattle.ds_plain.specs.State.{replaced}
-use Rattle.ds_plain.specs.Plain.{doing_of, IsReady, IsStopped, Allowed, phase_begun, phase_answered, answered, opened}
+use Rattle.ds_plain.specs.Plain.{doing_of, IsStopped, Allowed, phase_answered, answered, opened}
 use Rattle.ds_plain.specs.Plain.{written, request_in, requested_stop, named_stop, final_stop, phase_with, not_due}
 use Rattle.ds_plain.specs.Plain.{changed}
-use Rattle.ds_plain.specs.Table.{start_word, op_at}
+use Rattle.ds_plain.specs.Starting.{start_word}
+use Rattle.ds_plain.specs.Table.{op_at}
 use Rattle.ds_plain.specs.Reached.{AreCursors}
-use Rattle.ds_plain.specs.Thread.{Thread, standing, going_on}
+use Rattle.ds_plain.specs.Thread.{Thread, going_on}
 use Rattle.ds_plain.specs.History.{is_log}
 use Rattle.ds_plain.specs.Explained.{Agrees, is_fuel}
 use Rattle.ds_plain_laws.proofs.Choices.{replaced_same, replaced_other}
 use Rattle.ds_plain_laws.proofs.Words.{agrees_loaded, agrees_marked, agrees_stored, agrees_printed, program_word}
-use Rattle.ds_plain_laws.proofs.Phases.{Runs, Asking, Halts, asks_for, Passes, passes_same, passes_not_due, start_not_stopped}
+use Rattle.ds_plain_laws.proofs.Phases.{Runs, Asking, Halts, asks_for, Passes, passes_same, passes_not_due}
+use Rattle.ds_plain_laws.proofs.Phases.{waits_not_stopped, fresh_come}
 use Rattle.ds_plain_laws.proofs.Leaving.{Leaves, leaves_all, FreesNone}
 use Rattle.ds_plain_laws.proofs.Links.{Walks, Ending, Finishes, Trapped, Spent, Never, LinkedAt, IsLinked}
-use Rattle.ds_plain_laws.proofs.Links.{waiting_linked, going_linked}
+use Rattle.ds_plain_laws.proofs.Links.{going_linked}
 
 -- A step of thread t, with its operation and its event, on these words and from one state to another: the event is
 -- allowed, and the words, the phases and the thread that it leaves go together.
@@ -73,48 +73,14 @@ module _ (setting : Setting) (t : ℕ) (s : State) where
       → IsLinked setting.program setting.lim t (answered setting.lim t answer s')
       (going_on setting.lim cursors units (told rest answer))
   answered_linked walks range s' answer rest doing units cursors going none looks =
-      going_linked setting.program setting.lim t (answered setting.lim t answer s') cursors looks walks range
-      (told rest answer)
+      let after : State = answered setting.lim t answer s' in
+      going_linked setting.program setting.lim t after cursors looks walks range (told rest answer)
+      (fresh_come setting.lim s' (told rest answer) (after.threads t)
       (replaced_same s'.threads t (phase_answered setting.lim s' answer (s'.threads t))
-      ∙ ap (phase_answered setting.lim s' answer) going) none units
+      ∙ ap (phase_answered setting.lim s' answer) going)) none units
 
 module _ (setting : Setting) (t : ℕ) (words : List ℕ) (s : State) (before : Before setting words s)
     (rest : Behaviour) (units : ℕ) (began : Bool) (cursors : List ℕ) where
-  -- THE START
-
-  pub start_makes : (b : Bool) → (b ≡ true → t ≡ 0)
-      → LinkedAt setting.program setting.lim t rest began s cursors (Start LoadStart)
-      → Makes setting t words s (op_at setting.lim t (Start LoadStart)) (if b then events.Begin else events.Log)
-      (changed setting s t (if b then events.Begin else events.Log))
-      (if b then going_on setting.lim cursors (units + 1) (setting.program.behaves t setting.program.main 0)
-      else standing setting.lim cursors rest (units + 1) began (Start LoadStart))
-  start_makes true main l =
-      let first : ℕ = setting.program.main in
-      let ready : s.threads t ≡ Ready first 0 =
-      l.stands.1 ∙ ap (λ b. if b then Ready first 0 else NotGiven) (eq-eqb t 0 (main refl)) in
-      let begun : Phase = phase_begun setting s t (s.threads t) in
-      record {
-        allowed = λ _. subst IsReady (sym ready) tt;
-        linked = going_linked setting.program setting.lim t (changed setting s t events.Begin) cursors l.looks
-            before.walks before.range (setting.program.behaves t first 0)
-            (replaced_same s.threads t begun ∙ ap (phase_begun setting s t) ready) l.frees_so (units + 1);
-        others = replaced_passes setting t s s begun (all_same setting t s);
-        leaves = leaves_all t s (changed setting s t events.Begin) refl refl refl;
-        agrees = agrees_loaded setting.lim words s (changed setting s t events.Begin) before.agrees (start_word t)
-            (record { given = refl; out = refl; pages = refl; blocks = refl }) refl;
-        prints = omega arith;
-      }
-  start_makes false main l = record {
-    allowed = λ h. absurd (cc (h));
-    linked = waiting_linked setting.program setting.lim t s cursors l.looks rest (units + 1) began l.stands.0 l.stands.1
-        l.frees_so;
-    others = λ u ne. all_same setting t s u;
-    leaves = leaves_all t s s refl refl refl;
-    agrees = agrees_loaded setting.lim words s s before.agrees (start_word t)
-        (record { given = refl; out = refl; pages = refl; blocks = refl }) refl;
-    prints = omega arith;
-  }
-
   -- PROGRAM MEMORY
 
   pub load_word_makes : (loc old : ℕ)
@@ -209,9 +175,9 @@ module _ (setting : Setting) (t : ℕ) (words : List ℕ) (s : State) (before : 
       → Ending setting.program t rest began phase stop → named_stop phase ≡ stop
   named_ending stop phase other (Finishes b asking) = named_by stop phase asking
   named_ending stop phase other (Trapped b halts) = named_halted stop phase halts
-  named_ending stop phase other (Spent b runs fuel) =
+  named_ending stop phase other (Spent b goes fuel) =
       let is : is_fuel stop ≡ true = ap is_fuel fuel in absurd (cc (is, other))
-  named_ending stop phase other (Never b is' fuel) =
+  named_ending stop phase other (Never b waiting fuel) =
       let is : is_fuel stop ≡ true = ap is_fuel fuel in absurd (cc (is, other))
 
   ending_stop : (stop : Stop) (phase : Phase) → Ending setting.program t rest began phase stop
@@ -233,12 +199,10 @@ module _ (setting : Setting) (t : ℕ) (words : List ℕ) (s : State) (before : 
     λ h. subst IsStopped halts.going h,
     inl (inr (stop, ap (λ phase. (doing_of setting.lim s phase).ended) halts.going ∙ halts.ended)),
   )
-  ending_allowed stop recorded (Spent b runs fuel) =
-      (λ h. subst IsStopped runs.going h, inr (recorded ∙ ap is_fuel fuel))
-  ending_allowed stop recorded (Never b is fuel) = (
-    λ h. start_not_stopped (t == 0) setting.program.main (subst IsStopped is h),
-    inr (recorded ∙ ap is_fuel fuel),
-  )
+  ending_allowed stop recorded (Spent b goes fuel) =
+      (λ h. subst IsStopped goes.going h, inr (recorded ∙ ap is_fuel fuel))
+  ending_allowed stop recorded (Never b waiting fuel) =
+      (λ h. waits_not_stopped (s.threads t) waiting.waits h, inr (recorded ∙ ap is_fuel fuel))
 
   pub end_makes : (stop : Stop) → t < 16 → setting.out_of_fuel t ≡ is_fuel stop
       → LinkedAt setting.program setting.lim t rest began s cursors (StoreEnded stop)

@@ -1,8 +1,8 @@
 -- Every legal order of the traces is a run of the plain machine: by induction on the history from its front, at any
 -- words, state and threads that go together.
-use Rattle.std.proofs.Common.{◌≡◌, ℕ, zero, suc, ◌+◌, ◌^◌, ◌<◌, ◌≤◌, ◌==◌, Bool, true, false, if◌then◌else◌}
+use Rattle.std.proofs.Common.{◌≡◌, ℕ, zero, suc, ◌+◌, ◌^◌, ◌<◌, ◌≤◌, Bool, false, if◌then◌else◌}
 use Rattle.std.proofs.Common.{List, [], ◌∷◌, length, take, refl, sym, ap, ◌∙◌, subst, inl, inr, ◌⊎◌, arith}
-use Rattle.std.proofs.lemmas.Bool.{cases_eq, cases_lt, eq-eqb, ne_eqb, eqb-true, and_parts}
+use Rattle.std.proofs.lemmas.Bool.{cases_eq, cases_lt, eq-eqb, ne_eqb}
 use Rattle.std.proofs.lemmas.List.{length-set, get_or_past}
 use Rattle.ds_map.specs.Bounds.{Bounds, IsInRange}
 use Rattle.ds_map.specs.Words.{first_program_word, first_words}
@@ -13,11 +13,12 @@ use Rattle.ds_step.specs.Word.{words_after, answer_on}
 use Rattle.ds_plain.specs.declared.Stop.{Stop}
 use Rattle.ds_plain.specs.declared.StartAt.TheVariants.{LoadStart}
 use Rattle.ds_plain.specs.declared.Position.{Position}
-use Rattle.ds_plain.specs.declared.Position.TheVariants.{Start, Access, Malloc, Free, DrawPrint, StoreEnded, Over, NoRow}
+use Rattle.ds_plain.specs.declared.Position.TheVariants.{Start, Access, Malloc, Free, Spawn, Join, DrawPrint, StoreEnded}
+use Rattle.ds_plain.specs.declared.Position.TheVariants.{Over, NoRow}
 use Rattle.ds_plain.specs.Behaviour.{Behaviour, silent, Program}
 use Rattle.ds_plain.specs.State.{State, Setting, first_state, replaced, stop_of_phase}
 use Rattle.ds_plain.specs.Plain.{Allowed, changed, IsPlainRun, state_after}
-use Rattle.ds_plain.specs.Table.{begins, op_at, event_at, is_over}
+use Rattle.ds_plain.specs.Table.{op_at, event_at, is_over}
 use Rattle.ds_plain.specs.Thread.{Thread, first_cursors, first_thread, moved, moved_from, Follows, thread_after, stop_of}
 use Rattle.ds_plain.specs.History.{History, steps_of, Interleaves, IsLegal, words_left, is_log, erase}
 use Rattle.ds_plain.specs.Explained.{Agrees, is_fuel, stop_in, setting_of, IsRecord, IsLegalRun, IsExplained}
@@ -25,10 +26,14 @@ use Rattle.ds_plain_laws.proofs.Choices.{replaced_same, replaced_other}
 use Rattle.ds_plain_laws.proofs.Words.{agrees_first, roomy_first}
 use Rattle.ds_plain_laws.proofs.Leaving.{frees_first}
 use Rattle.ds_plain_laws.proofs.Links.{Walks, LinkedAt, IsLinked, linked_on, linked_stop, waiting_linked}
-use Rattle.ds_plain_laws.proofs.Makes.{Makes, Before, start_makes, print_makes, end_makes}
-use Rattle.ds_plain_laws.proofs.Accesses.{access_makes}
-use Rattle.ds_plain_laws.proofs.Mallocs.{malloc_makes}
-use Rattle.ds_plain_laws.proofs.Frees.{free_makes}
+use Rattle.ds_plain_laws.proofs.Phases.{waiting_first}
+use Rattle.ds_plain_laws.proofs.Makes.{Before}
+use Rattle.ds_plain_laws.proofs.Seats.{IsSeated, Seats}
+use Rattle.ds_plain_laws.proofs.Moves.{Moves}
+use Rattle.ds_plain_laws.proofs.Starts.{start_moves}
+use Rattle.ds_plain_laws.proofs.Acts.{access_moves, malloc_moves, free_moves, join_moves, print_moves}
+use Rattle.ds_plain_laws.proofs.Spawns.{spawn_moves}
+use Rattle.ds_plain_laws.proofs.Ends.{end_moves, seats_first}
 use Rattle.ds_plain_laws.proofs.Counts.{over_rest, standing_pays, trace_length, history_length}
 
 -- The words, the plain state and the threads go together, and what is left of the history is legal, follows the step
@@ -44,6 +49,9 @@ pub record Keeps (program : Program) (lim : Bounds) (stops : List Stop) (h : His
   pub ends : (t : ℕ) → t < 16 → stop_in stops t ≡ stop_of (thread_after program lim t (threads t) (steps_of t h))
   pub none_past : (t : ℕ) → 16 ≤ t → steps_of t h ≡ []
   pub few : length s.out + length h < 2 ^ 64
+  pub few_given : s.given + length h < 2 ^ 64
+  pub maker : ℕ → ℕ
+  pub seats : Seats words s threads maker
 
 -- what is left of the history is a run of the plain machine from this state, which agrees with the words at every
 -- moment
@@ -55,43 +63,50 @@ pub record Explains (program : Program) (lim : Bounds) (stops : List Stop) (h : 
   pub ends : (t : ℕ) → t < 16
       → stop_in stops t ≡ stop_of_phase ((state_after (setting_of program lim stops) s (erase h)).threads t)
 
--- only main begins
-begins_main : (t old : ℕ) → begins t old ≡ true → t ≡ 0
-begins_main t old h = eqb-true t 0 (and_parts (t == 0) (old == 1) h).0
-
 module _ (program : Program) (lim : Bounds) (stops : List Stop) (t : ℕ) (words : List ℕ) (s : State)
-    (before : Before (setting_of program lim stops) words s) where
-  makes_at : (p : Position) (rest : Behaviour) (units old : ℕ) (began : Bool) (cursors : List ℕ) (ss : List Step)
-      → t < 16 → length s.out + 1 < 2 ^ 64 → is_over p ≡ false → old ≡ answer_on words (op_at lim t p)
-      → LinkedAt program lim t rest began s cursors p
+    (threads : ℕ → Thread) (maker : ℕ → ℕ) (before : Before (setting_of program lim stops) words s)
+    (seats : Seats words s threads maker) (within : t < 16) where
+  moves_at : (p : Position) (rest : Behaviour) (units old : ℕ) (began : Bool) (cursors : List ℕ) (ss : List Step)
+      → length s.out + 1 < 2 ^ 64 → s.given + 1 < 2 ^ 64 → is_over p ≡ false → old ≡ answer_on words (op_at lim t p)
+      → LinkedAt program lim t rest began s cursors p → IsSeated words s maker t p
       → Follows program lim t (moved_from program lim t
       (record { rest = rest; position = p; units = units; began = began; cursors = cursors }) p old) ss
       → stop_in stops t ≡ stop_of (thread_after program lim t (moved_from program lim t
       (record { rest = rest; position = p; units = units; began = began; cursors = cursors }) p old) ss)
-      → Makes (setting_of program lim stops) t words s (op_at lim t p) (event_at lim t p old)
+      → Moves (setting_of program lim stops) t words s threads (op_at lim t p) (event_at lim t p old)
       (changed (setting_of program lim stops) s t (event_at lim t p old))
       (moved_from program lim t
       (record { rest = rest; position = p; units = units; began = began; cursors = cursors }) p old)
-  makes_at (Start LoadStart) rest units old began cursors ss within few over is l follows ends =
-      start_makes (setting_of program lim stops) t words s before rest units began cursors (begins t old)
-      (begins_main t old) l
-  makes_at (Access at) rest units old began cursors ss within few over is l follows ends =
-      access_makes (setting_of program lim stops) t words s before rest units began cursors at old is l
-  makes_at (Malloc at) rest units old began cursors ss within few over is l follows ends =
-      malloc_makes (setting_of program lim stops) t words s before rest units began cursors at old is l
-  makes_at (Free at) rest units old began cursors ss within few over is l follows ends =
-      free_makes (setting_of program lim stops) t words s before rest units began cursors at old is l
-  makes_at (DrawPrint value) rest units old began cursors ss within few over is l follows ends =
-      print_makes (setting_of program lim stops) t words s before rest units began cursors value old few is l
-  makes_at (StoreEnded stop) rest units old began cursors ss within few over is l follows ends =
+  moves_at (Start at) rest units old began cursors ss few few_given over is l seat follows ends =
+      start_moves (setting_of program lim stops) t words s threads maker before seats within rest units began cursors at
+      old is seat l
+  moves_at (Access at) rest units old began cursors ss few few_given over is l seat follows ends =
+      access_moves (setting_of program lim stops) t words s threads maker before seats within rest units began cursors at
+      old is l
+  moves_at (Malloc at) rest units old began cursors ss few few_given over is l seat follows ends =
+      malloc_moves (setting_of program lim stops) t words s threads maker before seats within rest units began cursors at
+      old is l
+  moves_at (Free at) rest units old began cursors ss few few_given over is l seat follows ends =
+      free_moves (setting_of program lim stops) t words s threads maker before seats within rest units began cursors at
+      old is l
+  moves_at (Spawn at) rest units old began cursors ss few few_given over is l seat follows ends =
+      spawn_moves (setting_of program lim stops) t words s threads maker before seats within rest units began cursors at
+      old few_given is seat l
+  moves_at (Join at) rest units old began cursors ss few few_given over is l seat follows ends =
+      join_moves (setting_of program lim stops) t words s threads maker before seats within rest units began cursors at
+      old is seat l
+  moves_at (DrawPrint value) rest units old began cursors ss few few_given over is l seat follows ends =
+      print_moves (setting_of program lim stops) t words s threads maker before seats within rest units began cursors
+      value old few is l
+  moves_at (StoreEnded stop) rest units old began cursors ss few few_given over is l seat follows ends =
       let a : Thread =
       record { rest = rest; position = Over stop; units = units; began = began; cursors = cursors } in
       let recorded : stop_in stops t ≡ stop =
       ends ∙ ap (λ ss. stop_of (thread_after program lim t a ss)) (over_rest program lim t a ss refl follows) in
-      end_makes (setting_of program lim stops) t words s before rest units began cursors stop within
+      end_moves (setting_of program lim stops) t words s threads maker before seats within rest units began cursors stop
       (ap is_fuel recorded) l
-  makes_at (Over stop) rest units old began cursors ss within few over is l follows ends = absurd (cc (over))
-  makes_at NoRow rest units old began cursors ss within few over is l follows ends = absurd (cc (over))
+  moves_at (Over stop) rest units old began cursors ss few few_given over is l seat follows ends = absurd (cc (over))
+  moves_at NoRow rest units old began cursors ss few few_given over is l seat follows ends = absurd (cc (over))
 
 module _ (setting : Setting) (s : State) (t : ℕ) where
   plain_more : (event : Event) (es : List (ℕ × Event)) → (is_log event ≡ false → Allowed setting s t event)
@@ -139,8 +154,8 @@ module _ (walks : Walks) (program : Program) (lim : Bounds) (range : IsInRange l
   ends_here : stop_in stops e.0 ≡ stop_of (thread_after program lim e.0 thread (steps_of e.0 h))
   ends_here = keeps.ends e.0 within ∙ ap (λ ss. stop_of (thread_after program lim e.0 (threads e.0) ss)) steps_here
 
-  pub makes : Makes (setting_of program lim stops) e.0 words s e.1.op e.1.event state thread
-  makes =
+  pub moves : Moves (setting_of program lim stops) e.0 words s threads e.1.op e.1.event state thread
+  moves =
       let a = threads e.0 in
       let setting : Setting = setting_of program lim stops in
       let answer : e.1.old ≡ answer_on words (op_at lim e.0 a.position) =
@@ -153,18 +168,20 @@ module _ (walks : Walks) (program : Program) (lim : Bounds) (range : IsInRange l
         roomy = keeps.roomy;
         none_noted = keeps.none_noted;
       } in
-      subst (λ (st : Step). Makes setting e.0 words s st.op st.event (changed setting s e.0 st.event) thread)
+      let few_given : s.given + 1 < 2 ^ 64 = omega (arith, keeps.few_given) in
+      subst (λ (st : Step). Moves setting e.0 words s threads st.op st.event (changed setting s e.0 st.event) thread)
       (sym follows_here.1)
-      (makes_at program lim stops e.0 words s before a.position a.rest a.units e.1.old a.began a.cursors
-      (steps_of e.0 h) within few follows_here.0 answer (keeps.linked e.0) follows_here.2 ends_here)
+      (moves_at program lim stops e.0 words s threads keeps.maker before keeps.seats within a.position a.rest a.units
+      e.1.old a.began a.cursors (steps_of e.0 h) few few_given follows_here.0 answer (keeps.linked e.0)
+      (keeps.seats.seated e.0 within) follows_here.2 ends_here)
 
   links_on : (u : ℕ) → ((e.0 ≡ u) ⊎ (e.0 ≡ u → ⊥)) → IsLinked program lim u state (threads' u)
   links_on u (inl is) = subst (λ u. IsLinked program lim u state (threads' u)) is
-      (subst (IsLinked program lim e.0 state) (sym (replaced_same threads e.0 thread)) makes.linked)
+      (subst (IsLinked program lim e.0 state) (sym (replaced_same threads e.0 thread)) moves.linked)
   links_on u (inr ne) =
       let a : Thread = threads u in
       subst (IsLinked program lim u state) (sym (replaced_other threads e.0 thread u ne))
-      (linked_on program lim e.0 u s state ne (makes.others u ne) makes.leaves a.rest a.began a.cursors a.position
+      (linked_on program lim e.0 u s state ne (moves.others u ne) moves.leaves a.rest a.began a.cursors a.position
       (keeps.linked u))
 
   follows_on : (u : ℕ) → ((e.0 ≡ u) ⊎ (e.0 ≡ u → ⊥)) → Follows program lim u (threads' u) (steps_of u h)
@@ -188,15 +205,18 @@ module _ (walks : Walks) (program : Program) (lim : Bounds) (range : IsInRange l
 
   pub keeps_on : Keeps program lim stops h (words_after words e.1.op) state threads'
   keeps_on = record {
-    agrees = makes.agrees;
+    agrees = moves.agrees;
     roomy = omega (arith, keeps.roomy, length-set {A = ℕ});
-    none_noted = makes.leaves.noted ∙ keeps.none_noted;
+    none_noted = moves.leaves.noted ∙ keeps.none_noted;
     linked = λ u. links_on u (cases_eq e.0 u);
     legal = keeps.legal.1;
     follows = λ u. follows_on u (cases_eq e.0 u);
     ends = λ u lt. ends_on u lt (cases_eq e.0 u);
     none_past = λ u le. sym (steps_away u (λ is. absurd (omega (arith, is, within)))) ∙ keeps.none_past u le;
-    few = omega (arith, makes.prints, keeps.few);
+    few = omega (arith, moves.prints, keeps.few);
+    few_given = omega (arith, moves.given, keeps.few_given);
+    maker = moves.maker;
+    seats = moves.seats;
   }
 
 module _ (walks : Walks) (program : Program) (lim : Bounds) (range : IsInRange lim) (stops : List Stop) where
@@ -222,7 +242,7 @@ module _ (walks : Walks) (program : Program) (lim : Bounds) (range : IsInRange l
           (changed (setting_of program lim stops) s e.0 e.1.event) → Explains program lim stops (e ∷ h) words s
       then_more rest = record {
         plain = plain_more (setting_of program lim stops) s e.0 e.1.event (erase h)
-            (makes walks program lim range stops e h words s threads keeps).allowed rest.plain;
+            (moves walks program lim range stops e h words s threads keeps).allowed rest.plain;
         agrees = elim [
           | zero ↦ keeps.agrees
           | suc k ↦
@@ -263,13 +283,16 @@ module _ (walks : Walks) (program : Program) (lim : Bounds) (stops : List Stop) 
     agrees = agrees_first program lim;
     roomy = roomy_first lim program.image;
     none_noted = refl;
-    linked = λ t. waiting_linked program lim t (first_state program lim) first_cursors (walks.start lim range) silent 0 false refl
-        refl (frees_first t);
+    linked = λ t. waiting_linked program lim t (first_state program lim) first_cursors (walks.start lim range) silent 0
+        false LoadStart refl (waiting_first program t) (frees_first t);
     legal = legal;
     follows = λ t. follows_all t (cases_lt t 16);
     ends = ends_all;
     none_past = none_past;
     few = omega (arith, history_length 16 (lim.fuel + 1) h few_steps none_past, range.fuel);
+    few_given = omega (arith, history_length 16 (lim.fuel + 1) h few_steps none_past, range.fuel);
+    maker = λ n. 0;
+    seats = seats_first program lim;
   }
 
   pub explained : IsExplained program lim stops h

@@ -15,6 +15,7 @@ use Rattle.ds_step.specs.declared.OpKind.TheVariants.{Cas}
 use Rattle.ds_step.specs.Word.{written_by}
 use Rattle.ds_plain.specs.Behaviour.{Program}
 use Rattle.ds_plain.specs.State.{Block, State, first_state, block_word, replaced}
+use Rattle.ds_plain.specs.Spawning.{given_word}
 use Rattle.ds_plain.specs.Table.{prints_word}
 use Rattle.ds_plain.specs.Explained.{Agrees}
 use Rattle.ds_plain_laws.proofs.Choices.{replaced_same, replaced_other}
@@ -93,6 +94,24 @@ module _ (lim : Bounds) (words : List ℕ) (s s' : State) (agrees : Agrees lim w
         pages = pages_kept 2 count (λ k le lt e. omega arith) pages;
         blocks = blocks_kept 2 count (λ k le lt e. omega arith) blocks;
         program = drop-set-lt (first_program_word lim) words 2 count (omega arith)
+            ∙ (agrees.program ∙ sym words_same);
+      }
+
+  -- the count of the threads that were given out rises by one
+  pub agrees_drawn : 2 < length words → s.given + 1 < 2 ^ 64 → s'.given ≡ suc s.given → s'.out ≡ s.out
+      → s'.pages ≡ s.pages → s'.blocks ≡ s.blocks → s'.words ≡ s.words
+      → Agrees lim (slice_set words given_word ((slice_index words given_word + 1) % 2 ^ 64)) s'
+  agrees_drawn roomy few given out pages blocks words_same =
+      let count : ℕ = (slice_index words given_word + 1) % 2 ^ 64 in
+      let next : count ≡ s'.given =
+      ap (λ n. (n + 1) % 2 ^ 64) agrees.given
+      ∙ (mod-eq_of_lt few ∙ omega (arith, given)) in
+      record {
+        given = get_or-set_same words 1 count 0 (omega (arith, roomy)) ∙ next;
+        prints = get_or-set_other words 1 2 count 0 (omega arith) ∙ (agrees.prints ∙ sym (ap length out));
+        pages = pages_kept 1 count (λ k le lt e. omega arith) pages;
+        blocks = blocks_kept 1 count (λ k le lt e. omega arith) blocks;
+        program = drop-set-lt (first_program_word lim) words 1 count (omega arith)
             ∙ (agrees.program ∙ sym words_same);
       }
 
