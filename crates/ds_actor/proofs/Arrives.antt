@@ -14,7 +14,10 @@ use Rattle.ds_plain.specs.declared.AccessAt.{AccessAt}
 use Rattle.ds_plain.specs.declared.AccessAt.TheVariants.{LoadWord, StoreWord, CombineWord, ReplaceWord}
 use Rattle.ds_plain.specs.declared.Change.TheVariants.{Put, Combine, Replace}
 use Rattle.ds_plain.specs.declared.Position.{Position}
-use Rattle.ds_plain.specs.declared.Position.TheVariants.{Start, Malloc, Free, DrawPrint, StoreEnded, Over, NoRow}
+use Rattle.ds_plain.specs.declared.SpawnAt.TheVariants.{DrawThread}
+use Rattle.ds_plain.specs.declared.JoinAt.TheVariants.{LoadGiven}
+use Rattle.ds_plain.specs.declared.Position.TheVariants.{Start, Malloc, Free, Spawn, Join, DrawPrint, StoreEnded, Over}
+use Rattle.ds_plain.specs.declared.Position.TheVariants.{NoRow}
 use Rattle.ds_plain.specs.declared.Position.TheVariants as positions
 use Rattle.ds_plain.specs.Behaviour.{Asked, Asks, Silent, Behaviour, silent, told, behaviour, place_in_text}
 use Rattle.ds_plain.specs.Accessing.{changing_at}
@@ -61,6 +64,8 @@ parts lim cursors rest units (positions.Access at) =
     parts_by cursors rest units (positions.Access at) (nat_lt units lim.fuel)
 parts lim cursors rest units (Malloc at) = parts_by cursors rest units (Malloc at) (nat_lt units lim.fuel)
 parts lim cursors rest units (Free at) = parts_by cursors rest units (Free at) (nat_lt units lim.fuel)
+parts lim cursors rest units (Spawn at) = parts_by cursors rest units (Spawn at) (nat_lt units lim.fuel)
+parts lim cursors rest units (Join at) = parts_by cursors rest units (Join at) (nat_lt units lim.fuel)
 parts lim cursors rest units (DrawPrint value) =
     parts_by cursors rest units (DrawPrint value) (nat_lt units lim.fuel)
 parts lim cursors rest units (StoreEnded stop) =
@@ -116,8 +121,10 @@ module _ (r : Running) (q : Machine) (place : Place) (rest : Behaviour) (lim : B
   goes (requests.Free address) serves known = freeing_by (is_freeable lim address) address (serves refl) (known refl)
   goes (requests.Note loc value) serves known = goes_by NoRow (nat_lt units lim.fuel) tt
   goes (requests.Print value) serves known = goes_by (DrawPrint value) (nat_lt units lim.fuel) (serves refl)
-  goes (requests.Spawn loc function arg) serves known = goes_by NoRow (nat_lt units lim.fuel) tt
-  goes (requests.Join number) serves known = goes_by NoRow (nat_lt units lim.fuel) tt
+  goes (requests.Spawn loc function arg) serves known =
+      goes_by (Spawn (DrawThread loc function arg)) (nat_lt units lim.fuel) (serves refl)
+  goes (requests.Join number) serves known =
+      goes_by (Join (LoadGiven number)) (nat_lt units lim.fuel) (serves refl, known refl)
   goes (requests.Stop stop) serves known = stopping stop
 
 -- a thread that arrives at a request knows its place

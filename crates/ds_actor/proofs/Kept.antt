@@ -6,7 +6,8 @@ use Rattle.ds_alloc_laws.specs.Laws.{ClassesAreFew, MallocsBegin}
 use Rattle.ds_plain.specs.declared.Place.{Place}
 use Rattle.ds_plain.specs.declared.Stop.TheVariants.{Fuel}
 use Rattle.ds_plain.specs.declared.Position.{Position}
-use Rattle.ds_plain.specs.declared.Position.TheVariants.{Start, Access, Malloc, Free, DrawPrint, StoreEnded, Over, NoRow}
+use Rattle.ds_plain.specs.declared.Position.TheVariants.{Start, Access, Malloc, Free, Spawn, Join, DrawPrint, StoreEnded}
+use Rattle.ds_plain.specs.declared.Position.TheVariants.{Over, NoRow}
 use Rattle.ds_plain.specs.Asking.{IsWithin, IsAskedWithin}
 use Rattle.ds_plain.specs.Reached.{AreCursors}
 use Rattle.ds_plain.specs.Behaviour.{Asked, Asks, Silent, Behaviour, silent, told}
@@ -33,6 +34,8 @@ module _ (lim : Bounds) where
   stands_within units (Access at) h = paying_within units (Access at) h
   stands_within units (Malloc at) h = paying_within units (Malloc at) h
   stands_within units (Free at) h = paying_within units (Free at) h
+  stands_within units (Spawn at) h = paying_within units (Spawn at) h
+  stands_within units (Join at) h = paying_within units (Join at) h
   stands_within units (DrawPrint value) h = paying_within units (DrawPrint value) h
   stands_within units (StoreEnded stop) h = tt
   stands_within units (Over stop) h = tt

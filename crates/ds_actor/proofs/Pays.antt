@@ -10,7 +10,8 @@ use Rattle.ds_plain.specs.declared.Request.TheVariants as requests
 use Rattle.ds_plain.specs.declared.StartAt.TheVariants.{LoadStart}
 use Rattle.ds_plain.specs.declared.FreeAt.TheVariants as frees
 use Rattle.ds_plain.specs.declared.Position.{Position}
-use Rattle.ds_plain.specs.declared.Position.TheVariants.{Start, Access, Malloc, Free, DrawPrint, StoreEnded, Over, NoRow}
+use Rattle.ds_plain.specs.declared.Position.TheVariants.{Start, Access, Malloc, Free, Spawn, Join, DrawPrint, StoreEnded}
+use Rattle.ds_plain.specs.declared.Position.TheVariants.{Over, NoRow}
 use Rattle.ds_plain.specs.Behaviour.{silent}
 use Rattle.ds_plain.specs.Freeing.{is_freeable}
 use Rattle.ds_plain.specs.Table.{looking_for, position_of, end_by}
@@ -25,6 +26,8 @@ IsOn (Start at) = ⊥
 IsOn (Access at) = Unit {0}
 IsOn (Malloc at) = Unit {0}
 IsOn (Free at) = Unit {0}
+IsOn (Spawn at) = Unit {0}
+IsOn (Join at) = Unit {0}
 IsOn (DrawPrint value) = Unit {0}
 IsOn (StoreEnded stop) = Unit {0}
 IsOn (Over stop) = Unit {0}
@@ -46,6 +49,8 @@ module _ (lim : Bounds) (units : ℕ) (want : Want) where
   stands_pays (Access at) on = by_test (Access at) (nat_lt units lim.fuel) refl (λ lt. lt)
   stands_pays (Malloc at) on = by_test (Malloc at) (nat_lt units lim.fuel) refl (λ lt. lt)
   stands_pays (Free at) on = by_test (Free at) (nat_lt units lim.fuel) refl (λ lt. lt)
+  stands_pays (Spawn at) on = by_test (Spawn at) (nat_lt units lim.fuel) refl (λ lt. lt)
+  stands_pays (Join at) on = by_test (Join at) (nat_lt units lim.fuel) refl (λ lt. lt)
   stands_pays (DrawPrint value) on = by_test (DrawPrint value) (nat_lt units lim.fuel) refl (λ lt. lt)
   stands_pays (StoreEnded stop) on = tt
   stands_pays (Over stop) on = tt

@@ -24,7 +24,7 @@ use Rattle.ds_plain.specs.declared.AccessAt.{AccessAt}
 use Rattle.ds_plain.specs.declared.AccessAt.TheVariants.{StoreWord, CombineWord, ReplaceWord, LoadPart}
 use Rattle.ds_plain.specs.declared.Change.{Change}
 use Rattle.ds_plain.specs.declared.Change.TheVariants.{Put, Combine, Replace}
-use Rattle.ds_plain.specs.declared.Position.TheVariants.{NoRow, StoreEnded}
+use Rattle.ds_plain.specs.declared.Position.TheVariants.{NoRow}
 use Rattle.ds_plain.specs.declared.Position.TheVariants as positions
 use Rattle.ds_plain.specs.Asking.{IsWithin, IsAskedWithin}
 use Rattle.ds_plain.specs.Behaviour.{Outcome, Goes, Wants, Stops, Stuck, Asked, Asks, Silent, asked_by, ask, one_more}
@@ -256,7 +256,7 @@ module _ (few : ClassesAreFew) (begins : MallocsBegin) (r : Running) (range : Is
   asks_fits (Print v) = λ cursors looks. tt
   asks_fits (Spawn at function argument) =
       located_fits (judged r.lim Ptr (input q at)) _ (judged_within r.lim Ptr (input q at))
-      (λ access h. λ cursors looks. tt)
+      (λ access h. λ cursors looks. h.loc)
   asks_fits (Join thread) = λ cursors looks. tt
   asks_fits (Note at v) =
       located_fits (judged r.lim Ptr (value q Ptr at)) _ (judged_within r.lim Ptr (value q Ptr at))

@@ -6,10 +6,14 @@ use Rattle.ds_plain.specs.declared.Place.{Place}
 use Rattle.ds_plain.specs.declared.Stop.{Stop}
 use Rattle.ds_plain.specs.declared.StartAt.TheVariants.{LoadStart}
 use Rattle.ds_plain.specs.declared.Position.{Position}
-use Rattle.ds_plain.specs.declared.Position.TheVariants.{Start, Access, Malloc, Free, DrawPrint, StoreEnded, Over, NoRow}
+use Rattle.ds_plain.specs.declared.Position.TheVariants.{Start, Access, Malloc, Free, Spawn, Join, DrawPrint, StoreEnded}
+use Rattle.ds_plain.specs.declared.Position.TheVariants.{Over, NoRow}
 use Rattle.ds_plain.specs.Asking.{IsWithin}
 use Rattle.ds_plain.specs.Behaviour.{Behaviour, silent, place_in_text}
 use Rattle.ds_plain.specs.Reached.{AreCursors}
+use Rattle.ds_plain.specs.Starting.{StartNext, StartsOn, Begins}
+use Rattle.ds_plain.specs.Spawning.{SpawnNext, SpawnsOn, SpawnTells, IsSpawnAt}
+use Rattle.ds_plain.specs.Joining.{JoinNext, JoinsOn, Joined, FailsJoin, IsJoinAt}
 use Rattle.ds_plain.specs.Table.{step_at, position_of}
 use Rattle.ds_plain.specs.Thread.{Thread, standing, first_cursors}
 use Rattle.ds_plain.specs.Turns.{is_not_yet}
@@ -19,6 +23,12 @@ use Rattle.ds_frame.specs.declared.moved.Want.{Want}
 use Rattle.ds_frame.specs.declared.moved.Want.TheVariants as wants
 use Rattle.ds_frame.specs.Threads as frames
 use Rattle.ds_frame.specs.Threads.{ThreadState, runs, Serves}
+use Rattle.ds_actor.specs.declared.start.StartStep.{StartStep}
+use Rattle.ds_actor.specs.declared.start.StartStep.TheVariants as starts
+use Rattle.ds_actor.specs.declared.spawn.SpawnStep.{SpawnStep}
+use Rattle.ds_actor.specs.declared.spawn.SpawnStep.TheVariants as spawns
+use Rattle.ds_actor.specs.declared.join.JoinStep.{JoinStep}
+use Rattle.ds_actor.specs.declared.join.JoinStep.TheVariants as joins
 use Rattle.ds_actor.specs.declared.outcome.Turn.{Turn}
 use Rattle.ds_actor.specs.declared.outcome.Turn.TheVariants.{Stepped, NotYet, Stopped}
 
@@ -53,6 +63,8 @@ GoesOn r q place rest (Start at) = Unit {0}
 GoesOn r q place rest (Access at) = Serves r q rest
 GoesOn r q place rest (Malloc at) = Serves r q rest
 GoesOn r q place rest (Free at) = Serves r q rest × (place ≡ place_in_text (rest []))
+GoesOn r q place rest (Spawn at) = Serves r q rest
+GoesOn r q place rest (Join at) = Serves r q rest × (place ≡ place_in_text (rest []))
 GoesOn r q place rest (DrawPrint value) = Serves r q rest
 GoesOn r q place rest (StoreEnded stop) = Unit {0}
 GoesOn r q place rest (Over stop) = Unit {0}
@@ -78,6 +90,8 @@ ended_with (Start at) = None
 ended_with (Access at) = None
 ended_with (Malloc at) = None
 ended_with (Free at) = None
+ended_with (Spawn at) = None
+ended_with (Join at) = None
 ended_with (DrawPrint value) = None
 ended_with (StoreEnded stop) = None
 ended_with (Over stop) = Some stop
@@ -94,6 +108,8 @@ turn_by (Start at) step = waiting step
 turn_by (Access at) step = waiting step
 turn_by (Malloc at) step = waiting step
 turn_by (Free at) step = waiting step
+turn_by (Spawn at) step = waiting step
+turn_by (Join at) step = waiting step
 turn_by (DrawPrint value) step = waiting step
 turn_by (StoreEnded stop) step = Stopped step stop
 turn_by (Over stop) step = waiting step
@@ -122,10 +138,39 @@ Pays fuel units want (Start at) = (units < fuel) × (want ≡ wants.Begin)
 Pays fuel units want (Access at) = units < fuel
 Pays fuel units want (Malloc at) = units < fuel
 Pays fuel units want (Free at) = units < fuel
+Pays fuel units want (Spawn at) = units < fuel
+Pays fuel units want (Join at) = units < fuel
 Pays fuel units want (DrawPrint value) = units < fuel
 Pays fuel units want (StoreEnded stop) = Unit {0}
 Pays fuel units want (Over stop) = Unit {0}
 Pays fuel units want NoRow = Unit {0}
+
+-- what comes of a step before a thread begins, as the code has it
+abbrev pub start_in : StartStep → StartNext
+start_in (starts.StartsOn at) = StartsOn at
+start_in (starts.Begins function argument) = Begins function argument
+
+-- and of one of a thread that starts another one
+abbrev pub spawn_in : SpawnStep → SpawnNext
+spawn_in (spawns.SpawnsOn at) = SpawnsOn at
+spawn_in (spawns.Tells answer) = SpawnTells answer
+
+-- it goes on with a position that it reaches
+abbrev pub IsSpawnStep : Bounds → SpawnStep → Type 0
+IsSpawnStep lim (spawns.SpawnsOn at) = IsSpawnAt lim at
+IsSpawnStep lim (spawns.Tells answer) = Unit {0}
+
+-- and of one of a thread that waits for another one
+abbrev pub join_in : JoinStep → JoinNext
+join_in (joins.JoinsOn at) = JoinsOn at
+join_in joins.Joined = Joined
+join_in (joins.FailsJoin number) = FailsJoin number
+
+-- it goes on with a position that it reaches
+abbrev pub IsJoinStep : JoinStep → Type 0
+IsJoinStep (joins.JoinsOn at) = IsJoinAt at
+IsJoinStep joins.Joined = Unit {0}
+IsJoinStep (joins.FailsJoin number) = Unit {0}
 
 -- the limits and the number are those of the thread, the position is one of the program's words, and is paid for
 pub record IsKept (lim : Bounds) (number : ℕ) (thread : ThreadState) (position : Position) (cursors : List ℕ)

@@ -3,16 +3,19 @@
 ghost use Rattle.std.specs.Prelude.{◌≡◌, ◌+◌, ◌<◌, ◌≤◌, suc, false, slice_set, IfOk};
 ghost use Rattle.ds_map.specs.Words.{words};
 ghost use Rattle.ds_map.specs.Blocks.{block_start};
-ghost use Rattle.ds_plain.specs.declared.StartAt.TheVariants.{LoadStart};
-ghost use Rattle.ds_plain.specs.declared.Position.TheVariants.{Start, Access, Malloc, Free};
+ghost use Rattle.ds_plain.specs.declared.Position.TheVariants.{Start, Access, Malloc, Free, Spawn, Join};
 ghost use Rattle.ds_plain.specs.Behaviour.{Behaviour, told};
 ghost use Rattle.ds_plain.specs.Asking.{IsWithin};
 ghost use Rattle.ds_plain.specs.Accessing.{access_next, IsAccessAt};
 ghost use Rattle.ds_plain.specs.Searching.{alloc_next, place_behind};
 ghost use Rattle.ds_plain.specs.Freeing.{free_next};
 ghost use Rattle.ds_plain.specs.Reached.{AreCursors, IsPlace, IsAllocAt, IsFreeAt};
-ghost use Rattle.ds_plain.specs.Table.{op_at, is_over, begins};
+ghost use Rattle.ds_plain.specs.Table.{op_at, is_over};
+ghost use Rattle.ds_plain.specs.Starting.{start_next};
+ghost use Rattle.ds_plain.specs.Spawning.{spawn_next, IsSpawnAt};
+ghost use Rattle.ds_plain.specs.Joining.{join_next, IsJoinAt};
 ghost use Rattle.ds_plain.specs.Thread.{first_thread, going_on, moved, moved_from_access, moved_from_malloc};
+ghost use Rattle.ds_plain.specs.Thread.{moved_from_start, moved_from_spawn, moved_from_join};
 ghost use Rattle.ds_plain.specs.Thread.{moved_from_free, freed_address, trap_kind, stop_at};
 ghost use Rattle.ds_plain.specs.Thread as threads;
 ghost use Rattle.ds_alloc_laws.specs.Laws.{class_at};
@@ -23,8 +26,11 @@ ghost use Rattle.ds_actor.specs.Actors.{actor_with, stands_at, first_actor, has_
 ghost use Rattle.ds_actor.specs.Actors.{turn_at, Pays};
 
 use crate::cursors::Cursors;
+use crate::join::{JoinStep, join_step};
 use crate::outcome::{Turn, turn_by};
 use crate::place::{position_by, stands_at};
+use crate::spawn::{SpawnStep, spawn_step};
+use crate::start::{StartStep, start_step};
 use crate::table::{op_of, step_of};
 use ds_access::AccessWalk;
 use ds_alloc::{AllocOutcome, AllocWalk, place_behind};
@@ -34,27 +40,29 @@ use ds_frame::{Thread, Want};
 use ds_map::Limits;
 use ds_mark::{FreeOutcome, FreeWalk};
 use ds_pages::start_of;
-use ds_plain::{AccessAt, AllocAt, FreeAt, Position, StartAt, Stop, Trap, TrapKind};
+use ds_plain::{
+    AccessAt, AllocAt, FreeAt, JoinAt, Position, SpawnAt, StartAt, Stop, Trap, TrapKind,
+};
 use ds_step::{FreeTrap, WordOp};
 use std::alloc::{AllocError, Global};
 use std::marker::Model;
 
-/// Whether a thread begins whose start word answered this.
-fn begins(number: u8, old: u64) -> bool
-    ensures { result ≡ begins number old }
-{
-    number == 0 && old == 1
-}
-
-/// Begins main, and answers where the thread then stands.
-fn begin(code: &Code, limits: &Limits, cursors: &Cursors, thread: &mut Thread) -> Position
+/// Begins a function with an argument, and answers where the thread then stands.
+fn begin(
+    code: &Code,
+    limits: &Limits,
+    cursors: &Cursors,
+    thread: &mut Thread,
+    function: u32,
+    argument: u64,
+) -> Position
     requires lim { thread.old.lim ≡ limits.now }
     requires row { code.now.row ≤ thread.old.row }
     requires fresh { thread.old.want ≡ wants.Begin }
     requires pays { thread.old.units < limits.now.fuel }
     requires looks { AreCursors limits.now cursors.now }
     ensures at { IsAt code.now (actor_with thread.new result cursors.now) (going_on thread.old.lim cursors.now
-        (thread.old.units + 1) (behaves (runs code.now thread.old) code.now.main 0)) }
+        (thread.old.units + 1) (behaves (runs code.now thread.old) function argument)) }
     ensures same { IsSame thread.old thread.new }
     ensures within { IsWithin limits.now result }
     ensures pays { Pays limits.now.fuel thread.new.units thread.new.want result }
@@ -63,7 +71,7 @@ fn begin(code: &Code, limits: &Limits, cursors: &Cursors, thread: &mut Thread) -
     mallocs_begin();
     let _pages = limits.pages();
     thread.spend();
-    thread.begin(code, code.main(), 0);
+    thread.begin(code, function, argument);
     position_by(limits, cursors, thread)
 }
 
@@ -94,17 +102,46 @@ fn resume(
     position_by(limits, cursors, thread)
 }
 
-/// Makes a thread wait that may not begin yet, and answers where it then stands.
-fn wait(limits: &Limits, cursors: &Cursors, thread: &mut Thread) -> Position
+/// Makes a thread go on that has not begun, and answers where it then stands.
+fn start_on(limits: &Limits, thread: &mut Thread, at: StartAt) -> Position
     requires lim { thread.old.lim ≡ limits.now }
     requires fresh { thread.old.want ≡ wants.Begin }
     requires pays { thread.old.units < limits.now.fuel }
     ensures thread { thread.new ≡ record thread.old { units = thread.old.units + 1 } }
-    ensures position { result ≡ stands_at limits.now (thread.old.units + 1) (Start LoadStart) }
+    ensures position { result ≡ stands_at limits.now (thread.old.units + 1) (Start at) }
+    ensures within { IsWithin limits.now result }
     ensures pays { Pays limits.now.fuel thread.new.units thread.new.want result }
 {
     thread.spend();
-    position_by(limits, cursors, thread)
+    stands_at(limits, thread.units(), Position::Start(at))
+}
+
+/// Makes a thread go on with starting another one, and answers where it then stands.
+fn spawn_on(limits: &Limits, thread: &mut Thread, at: SpawnAt) -> Position
+    requires lim { thread.old.lim ≡ limits.now }
+    requires reached { IsSpawnAt limits.now at }
+    requires pays { thread.old.units < limits.now.fuel }
+    ensures thread { thread.new ≡ record thread.old { units = thread.old.units + 1 } }
+    ensures position { result ≡ stands_at limits.now (thread.old.units + 1) (Spawn at) }
+    ensures within { IsWithin limits.now result }
+    ensures pays { Pays limits.now.fuel thread.new.units thread.new.want result }
+{
+    thread.spend();
+    stands_at(limits, thread.units(), Position::Spawn(at))
+}
+
+/// Makes a thread go on with waiting for another one, and answers where it then stands.
+fn join_on(limits: &Limits, thread: &mut Thread, at: JoinAt) -> Position
+    requires lim { thread.old.lim ≡ limits.now }
+    requires reached { IsJoinAt at }
+    requires pays { thread.old.units < limits.now.fuel }
+    ensures thread { thread.new ≡ record thread.old { units = thread.old.units + 1 } }
+    ensures position { result ≡ stands_at limits.now (thread.old.units + 1) (Join at) }
+    ensures within { IsWithin limits.now result }
+    ensures pays { Pays limits.now.fuel thread.new.units thread.new.want result }
+{
+    thread.spend();
+    stands_at(limits, thread.units(), Position::Join(at))
 }
 
 /// Makes a thread go on with its change of a part of a word, and answers where it then stands.
@@ -251,6 +288,8 @@ impl Actor {
             Position::Access(_) => Stop::Running,
             Position::Malloc(_) => Stop::Running,
             Position::Free(_) => Stop::Running,
+            Position::Spawn(_) => Stop::Running,
+            Position::Join(_) => Stop::Running,
             Position::DrawPrint { value: _ } => Stop::Running,
             Position::StoreEnded { stop: _ } => { if began { Stop::Running } else { Stop::Idle } }
             Position::Over { stop } => stop,
@@ -275,19 +314,30 @@ impl Actor {
         op_of(&self.limits, self.number, self.position)
     }
 
-    /// Goes on from its own start word, by what that answered.
-    fn start(&mut self, code: &Code, old: u64)
-        requires at { self.old.position ≡ Start LoadStart }
+    /// Goes on before it begins, by the answer to its step.
+    fn start(&mut self, code: &Code, at: StartAt, old: u64)
+        requires at { self.old.position ≡ Start at }
         requires row { code.now.row ≤ self.old.thread.row }
         ensures stands { (a : threads.Thread) → IsAt code.now self.old a → IsAt code.now self.new
-            (moved (program_of self.old.thread.lim code.now) self.old.thread.lim self.old.thread.number a old) }
+            (moved_from_start (program_of self.old.thread.lim code.now) self.old.thread.lim self.old.thread.number a
+            (start_next (program_of self.old.thread.lim code.now) self.old.thread.number at old)) }
         ensures same { IsSame self.old.thread self.new.thread }
     {
-        if begins(self.number, old) {
-            self.position = begin(code, &self.limits, &self.cursors, &mut self.thread);
-            return;
+        match start_step(code, self.number, at, old) {
+            StartStep::StartsOn(next) => {
+                self.position = start_on(&self.limits, &mut self.thread, next);
+            }
+            StartStep::Begins { function, argument } => {
+                self.position = begin(
+                    code,
+                    &self.limits,
+                    &self.cursors,
+                    &mut self.thread,
+                    function,
+                    argument,
+                );
+            }
         }
-        self.position = wait(&self.limits, &self.cursors, &mut self.thread);
     }
 
     /// Is told the answer to its request, and goes on up to the step behind.
@@ -389,6 +439,46 @@ impl Actor {
         }
     }
 
+    /// Goes on with starting another thread, by the answer to its step.
+    fn spawn(&mut self, code: &Code, at: SpawnAt, old: u64)
+        requires at { self.old.position ≡ Spawn at }
+        requires row { code.now.row ≤ self.old.thread.row }
+        ensures stands { (a : threads.Thread) → IsAt code.now self.old a → IsAt code.now self.new
+            (moved_from_spawn self.old.thread.lim a (spawn_next at old)) }
+        ensures same { IsSame self.old.thread self.new.thread }
+    {
+        match spawn_step(&self.limits, at, old) {
+            SpawnStep::SpawnsOn(next) => {
+                self.position = spawn_on(&self.limits, &mut self.thread, next);
+            }
+            SpawnStep::Tells(answer) => self.resumed(code, answer),
+        }
+    }
+
+    /// Goes on with waiting for another thread, by the answer to its step.
+    fn join(&mut self, code: &Code, at: JoinAt, old: u64)
+        requires at { self.old.position ≡ Join at }
+        requires row { code.now.row ≤ self.old.thread.row }
+        ensures stands { (a : threads.Thread) → IsAt code.now self.old a → IsAt code.now self.new
+            (moved_from_join self.old.thread.lim a (join_next self.old.thread.number at old)) }
+        ensures same { IsSame self.old.thread self.new.thread }
+    {
+        match join_step(self.number, at, old) {
+            JoinStep::JoinsOn(next) => {
+                self.position = join_on(&self.limits, &mut self.thread, next);
+            }
+            JoinStep::Joined => self.resumed(code, 0),
+            JoinStep::FailsJoin(number) => {
+                let place = self.thread.place();
+                let kind = TrapKind::BadJoin { number };
+                self.thread.spend();
+                self.position = Position::StoreEnded {
+                    stop: Stop::Trap(Trap { place, kind }),
+                };
+            }
+        }
+    }
+
     /// Takes the answer to its step and goes on, up to the step behind.
     fn go_on(&mut self, code: &Code, old: u64)
         requires goes_on { is_over self.old.position ≡ false }
@@ -398,10 +488,12 @@ impl Actor {
         ensures same { IsSame self.old.thread self.new.thread }
     {
         match self.position {
-            Position::Start(StartAt::LoadStart) => self.start(code, old),
+            Position::Start(at) => self.start(code, at, old),
             Position::Access(at) => self.access_on(code, at, old),
             Position::Malloc(at) => self.malloc_on(code, at, old),
             Position::Free(at) => self.freed_on(code, at, old),
+            Position::Spawn(at) => self.spawn(code, at, old),
+            Position::Join(at) => self.join(code, at, old),
             Position::DrawPrint { value: _ } => self.resumed(code, 0),
             Position::StoreEnded { stop } => {
                 self.position = Position::Over { stop };

@@ -3,9 +3,12 @@
 
 mod actor;
 mod cursors;
+mod join;
 mod make;
 mod outcome;
 mod place;
+mod spawn;
+mod start;
 mod table;
 #[cfg(test)]
 mod tests;

@@ -59,6 +59,8 @@ pub(crate) fn turn_by(position: Position, step: Step) -> Turn
         Position::Access(_) => waiting(step),
         Position::Malloc(_) => waiting(step),
         Position::Free(_) => waiting(step),
+        Position::Spawn(_) => waiting(step),
+        Position::Join(_) => waiting(step),
         Position::DrawPrint { value: _ } => waiting(step),
         Position::StoreEnded { stop } => Turn::Stopped(step, stop),
         Position::Over { stop: _ } => waiting(step),

@@ -15,7 +15,8 @@ use ds_class::class_of;
 use ds_frame::{Thread, Want};
 use ds_map::Limits;
 use ds_plain::{
-    Access, AccessAt, AllocAt, Change, FreeAt, Position, Request, Search, StartAt, Stop,
+    Access, AccessAt, AllocAt, Change, FreeAt, JoinAt, Position, Request, Search, SpawnAt, StartAt,
+    Stop,
 };
 
 /// The address of the heap's first byte.
@@ -133,12 +134,10 @@ fn position_of(limits: &Limits, cursors: &Cursors, request: Request) -> Position
         Request::Free(address) => freeing_at(limits, address),
         Request::Note { loc: _, value: _ } => Position::NoRow,
         Request::Print(value) => Position::DrawPrint { value },
-        Request::Spawn {
-            loc: _,
-            function: _,
-            arg: _,
-        } => Position::NoRow,
-        Request::Join(_) => Position::NoRow,
+        Request::Spawn { loc, function, arg } => {
+            Position::Spawn(SpawnAt::DrawThread { loc, function, arg })
+        }
+        Request::Join(number) => Position::Join(JoinAt::LoadGiven { number }),
         Request::Stop(stop) => end_by(stop),
     }
 }
@@ -173,6 +172,8 @@ pub(crate) fn stands_at(limits: &Limits, units: u32, position: Position) -> Posi
         Position::Access(_) => paid(limits, units, position),
         Position::Malloc(_) => paid(limits, units, position),
         Position::Free(_) => paid(limits, units, position),
+        Position::Spawn(_) => paid(limits, units, position),
+        Position::Join(_) => paid(limits, units, position),
         Position::DrawPrint { value: _ } => paid(limits, units, position),
         Position::StoreEnded { stop: _ } => position,
         Position::Over { stop: _ } => position,
