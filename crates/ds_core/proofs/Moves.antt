@@ -5,28 +5,33 @@ use Rattle.std.specs.Prelude.{nat_lt, nat_le}
 use Rattle.std.proofs.lemmas.Bool.{cond_both, ltb-true, leb-true}
 use Rattle.ds_map.specs.Bounds.{Bounds}
 use Rattle.ds_map.specs.Blocks.{class_of, block_start}
-use Rattle.ds_step.specs.declared.Event.TheVariants as events
 use Rattle.ds_plain.specs.declared.Stop.{Stop}
 use Rattle.ds_plain.specs.declared.Stop.TheVariants.{Idle, Running, Returned, Trap, Full, Fuel}
 use Rattle.ds_plain.specs.declared.Request.{Request}
 use Rattle.ds_plain.specs.declared.Request.TheVariants as requests
 use Rattle.ds_plain.specs.declared.StartAt.TheVariants.{LoadStart}
 use Rattle.ds_plain.specs.declared.Position.{Position}
-use Rattle.ds_plain.specs.declared.Position.TheVariants.{Start, Access, Malloc, Free, DrawPrint, StoreEnded, Over, NoRow}
+use Rattle.ds_plain.specs.declared.Position.TheVariants.{Start, Access, Malloc, Free, Spawn, Join, DrawPrint, StoreEnded}
+use Rattle.ds_plain.specs.declared.Position.TheVariants.{Over, NoRow}
 use Rattle.ds_plain.specs.Behaviour.{Asked, Asks, Silent, Behaviour, place_in_text, told, Program}
 use Rattle.ds_plain.specs.declared.FreeAt.TheVariants as frees
 use Rattle.ds_plain.specs.Plain.{trap_stop}
+use Rattle.ds_plain.specs.declared.TrapKind.TheVariants.{BadJoin}
+use Rattle.ds_plain.specs.Starting.{StartNext, StartsOn, Begins, start_next}
+use Rattle.ds_plain.specs.Spawning.{SpawnNext, SpawnsOn, SpawnTells, spawn_next}
+use Rattle.ds_plain.specs.Joining.{JoinNext, JoinsOn, Joined, FailsJoin, join_next}
 use Rattle.ds_plain.specs.Accessing.{AccessNext, AccessesOn, Tells, access_next}
 use Rattle.ds_plain.specs.Searching.{AllocNext, Looks, Takes, TakesNone, place_behind, alloc_next}
 use Rattle.ds_plain.specs.Freeing.{FreeNext, FreesOn, Freed, FailsFree, free_next, is_freeable}
-use Rattle.ds_plain.specs.Table.{begins, looking_for, position_of, is_over, step_at, end_by}
+use Rattle.ds_plain.specs.Table.{looking_for, position_of, is_over, step_at, end_by}
 use Rattle.ds_plain.specs.Thread.{Thread, paying, standing, arriving, going_on, moved_from_access, moved_from_malloc}
-use Rattle.ds_plain.specs.Thread.{moved_from_free, freed_address, trap_kind, moved, first_cursors, first_thread}
-use Rattle.ds_plain.specs.Turns.{passing_of, ends_thread, is_end}
+use Rattle.ds_plain.specs.Thread.{moved_from_start, moved_from_spawn, moved_from_join, moved_from_free}
+use Rattle.ds_plain.specs.Thread.{freed_address, trap_kind, moved, first_cursors, first_thread}
+use Rattle.ds_plain.specs.Turns.{is_end}
 use Rattle.ds_plain.specs.Asking.{has_row, AsksRows, HasRows}
 use Rattle.ds_plain.specs.Explained.{HasEnded}
 use Rattle.ds_core.specs.Fits.{FitsAt, Fits, steps_left}
-use Rattle.ds_core.proofs.Passing.{access_goes_on, malloc_goes_on, free_goes_on}
+use Rattle.ds_core.proofs.Passing.{start_goes_on, spawn_goes_on, join_goes_on, access_goes_on, malloc_goes_on, free_goes_on}
 
 -- a thread has come so far, with at least these units spent
 record Comes (lim : Bounds) (units : ℕ) (behaves : Behaviour) (a : Thread) : Type 0 where
@@ -61,6 +66,8 @@ EndsWell (Start at) = Unit {0}
 EndsWell (Access at) = Unit {0}
 EndsWell (Malloc at) = Unit {0}
 EndsWell (Free at) = Unit {0}
+EndsWell (Spawn at) = Unit {0}
+EndsWell (Join at) = Unit {0}
 EndsWell (DrawPrint value) = Unit {0}
 EndsWell (StoreEnded stop) = HasEnded stop
 EndsWell (Over stop) = ⊥
@@ -76,6 +83,10 @@ standing_comes lim cursors behaves units began (Malloc at) inside well =
     paying_comes lim cursors behaves units began (Malloc at) inside (λ lt. (refl, lt)) (omega arith)
 standing_comes lim cursors behaves units began (Free at) inside well =
     paying_comes lim cursors behaves units began (Free at) inside (λ lt. (refl, lt)) (omega arith)
+standing_comes lim cursors behaves units began (Spawn at) inside well =
+    paying_comes lim cursors behaves units began (Spawn at) inside (λ lt. (refl, lt)) (omega arith)
+standing_comes lim cursors behaves units began (Join at) inside well =
+    paying_comes lim cursors behaves units began (Join at) inside (λ lt. (refl, lt)) (omega arith)
 standing_comes lim cursors behaves units began (DrawPrint value) inside well =
     paying_comes lim cursors behaves units began (DrawPrint value) inside (λ lt. (refl, lt)) (omega arith)
 standing_comes lim cursors behaves units began (StoreEnded stop) inside well =
@@ -111,8 +122,8 @@ request_ends lim cursors (requests.Malloc bytes) row = malloc_ends cursors (clas
 request_ends lim cursors (requests.Free address) row = free_ends (is_freeable lim address) address row
 request_ends lim cursors (requests.Note loc value) row = cc
 request_ends lim cursors (requests.Print value) row = tt
-request_ends lim cursors (requests.Spawn loc function arg) row = cc
-request_ends lim cursors (requests.Join number) row = cc
+request_ends lim cursors (requests.Spawn loc function arg) row = tt
+request_ends lim cursors (requests.Join number) row = tt
 request_ends lim cursors (requests.Stop stop) row = stop_ends stop row
 
 arriving_comes : (lim : Bounds) (cursors : List ℕ) (behaves : Behaviour) (units : ℕ) (asked : Asked) → units ≤ lim.fuel
@@ -151,17 +162,37 @@ told_nearer lim cursors units answer behaves paid asks =
     comes_nearer lim units (told behaves answer) _ paid (λ cs answers. asks cs (answer ∷ answers))
     (goes_on lim cursors (units + 1) (told behaves answer) (omega (arith, paid)) (λ cs answers. asks cs (answer ∷ answers)))
 
-starts : (program : Program) (lim : Bounds) (cursors : List ℕ) (t units : ℕ) (behaves : Behaviour) (began b : Bool)
-    → HasRows lim program → units < lim.fuel → AsksRows lim behaves
-    → Moves lim (ends_thread (passing_of (if b then events.Begin else events.Log))) (suc (lim.fuel - units))
-    (if b then going_on lim cursors (units + 1) (program.behaves t program.main 0)
-    else standing lim cursors behaves (units + 1) began (Start LoadStart))
-starts program lim cursors t units behaves began true rows paid asks =
-    comes_nearer lim units (program.behaves t program.main 0) _ paid (rows t program.main 0)
-    (goes_on lim cursors (units + 1) (program.behaves t program.main 0) (omega (arith, paid)) (rows t program.main 0))
-starts program lim cursors t units behaves began false rows paid asks =
-    comes_nearer lim units behaves _ paid asks
-    (standing_comes lim cursors behaves (units + 1) began (Start LoadStart) (omega (arith, paid)) tt)
+-- a thread that has not begun goes on, or begins
+start_moves : (program : Program) (lim : Bounds) (t : ℕ) (a : Thread) (next : StartNext) → HasRows lim program
+    → a.units < lim.fuel → AsksRows lim a.rest
+    → Moves lim false (suc (lim.fuel - a.units)) (moved_from_start program lim t a next)
+start_moves program lim t a (StartsOn at) rows paid asks =
+    comes_nearer lim a.units a.rest _ paid asks
+    (standing_comes lim a.cursors a.rest (a.units + 1) a.began (Start at) (omega (arith, paid)) tt)
+start_moves program lim t a (Begins function argument) rows paid asks =
+    let behaves : Behaviour = program.behaves t function argument in
+    comes_nearer lim a.units behaves _ paid (rows t function argument)
+    (goes_on lim a.cursors (a.units + 1) behaves (omega (arith, paid)) (rows t function argument))
+
+-- a thread that starts another one goes on, or is told an answer
+spawn_moves : (lim : Bounds) (a : Thread) (next : SpawnNext) → a.units < lim.fuel → AsksRows lim a.rest
+    → Moves lim false (suc (lim.fuel - a.units)) (moved_from_spawn lim a next)
+spawn_moves lim a (SpawnsOn at) paid asks =
+    comes_nearer lim a.units a.rest _ paid asks
+    (standing_comes lim a.cursors a.rest (a.units + 1) a.began (Spawn at) (omega (arith, paid)) tt)
+spawn_moves lim a (SpawnTells answer) paid asks = told_nearer lim a.cursors a.units answer a.rest paid asks
+
+-- a thread that waits for another one goes on, is done, or stops
+join_moves : (lim : Bounds) (a : Thread) (next : JoinNext) → a.units < lim.fuel → AsksRows lim a.rest
+    → Moves lim false (suc (lim.fuel - a.units)) (moved_from_join lim a next)
+join_moves lim a (JoinsOn at) paid asks =
+    comes_nearer lim a.units a.rest _ paid asks
+    (standing_comes lim a.cursors a.rest (a.units + 1) a.began (Join at) (omega (arith, paid)) tt)
+join_moves lim a Joined paid asks = told_nearer lim a.cursors a.units 0 a.rest paid asks
+join_moves lim a (FailsJoin number) paid asks =
+    comes_nearer lim a.units a.rest _ paid asks
+    (standing_comes lim a.cursors a.rest (a.units + 1) a.began
+    (StoreEnded (trap_stop (place_in_text (a.rest [])) (BadJoin number))) (omega (arith, paid)) tt)
 
 -- an access goes on, or is told an answer; no event of it is an end
 access_moves : (lim : Bounds) (a : Thread) (next : AccessNext) → a.units < lim.fuel → AsksRows lim a.rest
@@ -197,8 +228,11 @@ moves_from : (program : Program) (lim : Bounds) (t : ℕ) (behaves : Behaviour) 
     (cursors : List ℕ) (old : ℕ) → HasRows lim program → FitsAt lim false p units → AsksRows lim behaves
     → Moves lim (is_end (step_at lim t p old)) (steps_left lim.fuel p units) (moved program lim t
     (record { rest = behaves; position = p; units = units; began = began; cursors = cursors }) old)
-moves_from program lim t behaves (Start LoadStart) units began cursors old rows fits asks =
-    starts program lim cursors t units behaves began (begins t old) rows fits.1 asks
+moves_from program lim t behaves (Start at) units began cursors old rows fits asks =
+    let a : Thread =
+    record { rest = behaves; position = Start at; units = units; began = began; cursors = cursors } in
+    subst (λ b. Moves lim b (suc (lim.fuel - units)) (moved_from_start program lim t a (start_next program t at old)))
+    (sym (start_goes_on t at old)) (start_moves program lim t a (start_next program t at old) rows fits.1 asks)
 moves_from program lim t behaves (Access at) units began cursors old rows fits asks =
     let a : Thread =
     record { rest = behaves; position = Access at; units = units; began = began; cursors = cursors } in
@@ -214,6 +248,16 @@ moves_from program lim t behaves (Free at) units began cursors old rows fits ask
     record { rest = behaves; position = Free at; units = units; began = began; cursors = cursors } in
     subst (λ b. Moves lim b (suc (lim.fuel - units)) (moved_from_free lim a (freed_address at) (free_next at old)))
     (sym (free_goes_on at old)) (free_moves lim a (freed_address at) (free_next at old) fits.1 asks)
+moves_from program lim t behaves (Spawn at) units began cursors old rows fits asks =
+    let a : Thread =
+    record { rest = behaves; position = Spawn at; units = units; began = began; cursors = cursors } in
+    subst (λ b. Moves lim b (suc (lim.fuel - units)) (moved_from_spawn lim a (spawn_next at old)))
+    (sym (spawn_goes_on at old)) (spawn_moves lim a (spawn_next at old) fits.1 asks)
+moves_from program lim t behaves (Join at) units began cursors old rows fits asks =
+    let a : Thread =
+    record { rest = behaves; position = Join at; units = units; began = began; cursors = cursors } in
+    subst (λ b. Moves lim b (suc (lim.fuel - units)) (moved_from_join lim a (join_next t at old)))
+    (sym (join_goes_on t at old)) (join_moves lim a (join_next t at old) fits.1 asks)
 moves_from program lim t behaves (DrawPrint value) units began cursors old rows fits asks =
     told_nearer lim cursors units 0 behaves fits.1 asks
 moves_from program lim t behaves (StoreEnded stop) units began cursors old rows fits asks =
@@ -234,6 +278,8 @@ goes lim (Start at) units fits = refl
 goes lim (Access at) units fits = refl
 goes lim (Malloc at) units fits = refl
 goes lim (Free at) units fits = refl
+goes lim (Spawn at) units fits = refl
+goes lim (Join at) units fits = refl
 goes lim (DrawPrint value) units fits = refl
 goes lim (StoreEnded stop) units fits = refl
 goes lim (Over stop) units fits = cc

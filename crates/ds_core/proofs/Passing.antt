@@ -1,8 +1,15 @@
--- The events of an access, of a malloc and of a free give out no thread and end none.
-use Rattle.std.proofs.Common.{◌≡◌, ℕ, ◌==◌, false, refl, ap}
+-- The events of a start, a spawn, a join, an access, a malloc and a free end no thread.
+use Rattle.std.proofs.Common.{◌≡◌, ℕ, ◌==◌, Bool, true, false, if◌then◌else◌, nat_lt, refl, ap}
 use Rattle.std.proofs.lemmas.Bool.{cond_both}
 use Rattle.ds_map.specs.Bounds.{Bounds}
 use Rattle.ds_step.specs.declared.Event.{Event}
+use Rattle.ds_step.specs.declared.Event.TheVariants as events
+use Rattle.ds_plain.specs.declared.StartAt.{StartAt}
+use Rattle.ds_plain.specs.declared.StartAt.TheVariants as starts
+use Rattle.ds_plain.specs.declared.SpawnAt.{SpawnAt}
+use Rattle.ds_plain.specs.declared.SpawnAt.TheVariants as spawns
+use Rattle.ds_plain.specs.declared.JoinAt.{JoinAt}
+use Rattle.ds_plain.specs.declared.JoinAt.TheVariants as joins
 use Rattle.ds_plain.specs.declared.Access.{Access}
 use Rattle.ds_plain.specs.declared.Change.{Change}
 use Rattle.ds_plain.specs.declared.AccessAt.{AccessAt}
@@ -12,6 +19,9 @@ use Rattle.ds_plain.specs.declared.AllocAt.{AllocAt}
 use Rattle.ds_plain.specs.declared.AllocAt.TheVariants as allocs
 use Rattle.ds_plain.specs.declared.FreeAt.{FreeAt}
 use Rattle.ds_plain.specs.declared.FreeAt.TheVariants as frees
+use Rattle.ds_plain.specs.Starting.{begins, start_event}
+use Rattle.ds_plain.specs.Spawning.{spawn_event}
+use Rattle.ds_plain.specs.Joining.{is_bad_join, join_event}
 use Rattle.ds_plain.specs.Accessing.{is_refused, part_seen, access_event}
 use Rattle.ds_plain.specs.Searching.{PageSeen, Unsized, Wanted, Other, NoPageWord, page_seen, page_loaded, page_swapped}
 use Rattle.ds_plain.specs.Searching.{BlockSeen, Unused, Used, NoBlockWord, block_seen, block_loaded, block_swapped}
@@ -24,6 +34,39 @@ use Rattle.ds_plain.specs.Turns.{Neither, passing_of, ends_thread}
 -- the event gives out no thread and ends none
 abbrev Passes : Event → Type 0
 Passes event = passing_of event ≡ Neither
+
+start_goes_by : (b : Bool) → ends_thread (passing_of (if b then events.Begin else events.Log)) ≡ false
+start_goes_by true = refl
+start_goes_by false = refl
+
+pub start_goes_on : (t : ℕ) (at : StartAt) (old : ℕ) → ends_thread (passing_of (start_event t at old)) ≡ false
+start_goes_on t starts.LoadStart old = start_goes_by (begins t old)
+start_goes_on t starts.LoadFunction old = refl
+start_goes_on t (starts.LoadArgument function) old = refl
+
+draw_goes : (function arg drawn : ℕ) (b : Bool)
+    → ends_thread (passing_of (if b then events.Spawn drawn function arg else events.SpawnRefused)) ≡ false
+draw_goes function arg drawn true = refl
+draw_goes function arg drawn false = refl
+
+pub spawn_goes_on : (at : SpawnAt) (old : ℕ) → ends_thread (passing_of (spawn_event at old)) ≡ false
+spawn_goes_on (spawns.DrawThread loc function arg) old = draw_goes function arg old (nat_lt old 16)
+spawn_goes_on (spawns.StoreNumber n loc function arg) old = refl
+spawn_goes_on (spawns.StoreFunction n function arg) old = refl
+spawn_goes_on (spawns.StoreArgument n arg) old = refl
+spawn_goes_on (spawns.OpenThread n) old = refl
+
+given_goes : (b : Bool) → ends_thread (passing_of (if b then events.Trap else events.Log)) ≡ false
+given_goes true = refl
+given_goes false = refl
+
+ended_goes : (n : ℕ) (b : Bool) → ends_thread (passing_of (if b then events.Join n else events.Log)) ≡ false
+ended_goes n true = refl
+ended_goes n false = refl
+
+pub join_goes_on : (t : ℕ) (at : JoinAt) (old : ℕ) → ends_thread (passing_of (join_event t at old)) ≡ false
+join_goes_on t (joins.LoadGiven number) old = given_goes (is_bad_join t number old)
+join_goes_on t (joins.LoadEnded n) old = ended_goes n (old == 2)
 
 part_passes : (access : Access) (change : Change) (word : ℕ) → Passes (part_seen access change word)
 part_passes access change word = cond_both (is_refused access change word) _ _ Passes (λ e. refl) (λ e. refl)

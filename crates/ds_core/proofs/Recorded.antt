@@ -1,20 +1,18 @@
 -- The record of a run in which main has ended.
-use Rattle.std.proofs.Common.{◌≡◌, ℕ, suc, ◌+◌, ◌<◌, Bool, true, List, []}
+use Rattle.std.proofs.Common.{◌≡◌, ℕ, ◌<◌, Bool, true, List, []}
 use Rattle.std.proofs.Common.{length}
-use Rattle.std.proofs.Common.{replicate, drop, map, get_or, refl, ap}
+use Rattle.std.proofs.Common.{replicate, map, ap}
 use Rattle.std.proofs.Common.{sym, subst}
 use Rattle.std.proofs.Common.{◌∙◌, arith, inl, inr}
-use Rattle.std.specs.Prelude.{nat_lt}
-use Rattle.std.proofs.lemmas.Bool.{cond_both}
-use Rattle.std.proofs.lemmas.List.{append-nil, get_or-map, get_or-drop, get_or-replicate, length-map, length-drop}
-use Rattle.std.proofs.lemmas.List.{ext_get_or}
+use Rattle.std.proofs.lemmas.List.{append-nil, get_or-map, length-map}
 use Rattle.std.proofs.lemmas.Option.{slice_get_cases}
 use Rattle.ds_map.specs.Bounds.{Bounds}
 use Rattle.ds_map.specs.Words.{first_words, words as words_of}
 use Rattle.ds_step.specs.declared.Step.{Step}
 use Rattle.ds_plain.specs.declared.Cue.{Cue}
 use Rattle.ds_plain.specs.declared.Position.{Position}
-use Rattle.ds_plain.specs.declared.Position.TheVariants.{Start, Access, Malloc, Free, DrawPrint, StoreEnded, Over, NoRow}
+use Rattle.ds_plain.specs.declared.Position.TheVariants.{Start, Access, Malloc, Free, Spawn, Join, DrawPrint, StoreEnded}
+use Rattle.ds_plain.specs.declared.Position.TheVariants.{Over, NoRow}
 use Rattle.ds_plain.specs.declared.Stop.{Stop}
 use Rattle.ds_plain.specs.declared.Stop.TheVariants.{Idle}
 use Rattle.ds_plain.specs.Thread.{Thread, first_thread, stop_at, stop_of}
@@ -50,17 +48,10 @@ runs_first law code lim cues seed image words actors traces order standing same 
       (subst (λ (ts : List (List Step)). Stands (program_of lim code) lim ts [] (first_words lim code.image)
       (λ u. first_thread lim)) (sym t) (law (program_of lim code) lim));
   are_actors = are;
-  fits = fits_first lim;
-  others = λ t. refl;
-  alone = o ∙ ap (λ (l : List ℕ). replicate (length l) 0) (sym o);
+  fits = λ t. fits_first lim;
   scheduled = at;
   by_turns = λ more rest. rest;
-  main_given = refl;
 }
-
--- a thread that has made no step never began
-idle : (lim : Bounds) → stop_of (first_thread lim) ≡ Idle
-idle lim = cond_both (nat_lt 0 lim.fuel) _ _ (λ (a : Thread). stop_of a ≡ Idle) (λ e. refl) (λ e. refl)
 
 -- a thread that has ended stands so
 ended_at : (lim : Bounds) (began : Bool) (p : Position) (units : ℕ) → FitsAt lim true p units
@@ -69,6 +60,8 @@ ended_at lim began (Start at) units fits = cc
 ended_at lim began (Access at) units fits = cc
 ended_at lim began (Malloc at) units fits = cc
 ended_at lim began (Free at) units fits = cc
+ended_at lim began (Spawn at) units fits = cc
+ended_at lim began (Join at) units fits = cc
 ended_at lim began (DrawPrint value) units fits = cc
 ended_at lim began (StoreEnded stop) units fits = cc
 ended_at lim began (Over stop) units fits = fits.1
@@ -91,20 +84,6 @@ module _ (code : CodeParts) (lim : Bounds) (threads : ℕ → Thread) (actors : 
   sixteen : length stops ≡ 16
   sixteen = ap length stopped ∙ length-map actors actor_stop ∙ are.sixteen
 
-  -- the stops of the others
-  others_idle : ((t : ℕ) → threads (suc t) ≡ first_thread lim) → drop 1 stops ≡ replicate 15 Idle
-  others_idle others =
-      let long : length (drop 1 stops) ≡ 15 = length-drop 1 stops ∙ omega (arith, sixteen) in
-      ext_get_or Idle (drop 1 stops) (replicate 15 Idle) (long ∙ refl)
-      (λ i lt.
-      let next : 1 + i ≡ suc i = omega arith in
-      get_or-drop 1 stops i Idle ∙ ap (λ (n : ℕ). get_or stops n Idle) next ∙ stop_there (suc i) (omega (
-        arith,
-        long,
-        lt,
-      ))
-      ∙ ap stop_of (others i) ∙ idle lim ∙ sym (get_or-replicate 15 i Idle Idle (omega (arith, long, lt))))
-
 module _ (law : StandingIsRecorded) (code : CodeParts) (lim : Bounds) (cues : List Cue) (seed : ℕ) (words : List ℕ)
     (actors : List ActorState) (traces : List (List Step)) (order : List ℕ) (standing : Standing)
     (runs : Runs code lim cues seed words actors traces order standing) (stops : List Stop)
@@ -116,9 +95,6 @@ module _ (law : StandingIsRecorded) (code : CodeParts) (lim : Bounds) (cues : Li
 
   pub sixteen_stops : length stops ≡ 16
   sixteen_stops = sixteen code lim runs.threads actors runs.are_actors stops stopped
-
-  pub all_idle : drop 1 stops ≡ replicate 15 Idle
-  all_idle = others_idle code lim runs.threads actors runs.are_actors stops stopped runs.others
 
   pub main_ended : main_has_ended standing ≡ true → HasEnded (stop_in stops 0)
   main_ended told =
@@ -136,6 +112,3 @@ module _ (law : StandingIsRecorded) (code : CodeParts) (lim : Bounds) (cues : Li
     subst (λ (h : History). IsTurnByTurn (first_turns cues seed) h) (append-nil runs.history)
         (runs.by_turns [] (sym (runs.scheduled.ended 0 (omega arith)) ∙ told)),
   )
-
-  pub alone : order ≡ replicate (length order) 0
-  alone = runs.alone

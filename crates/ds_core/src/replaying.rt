@@ -1,16 +1,15 @@
 //! Runs code on the shared words.
 
-ghost use Rattle.std.specs.Prelude.{◌≡◌, ◌<◌, ◌≤◌, ℕ, List, true, false, [], ◌++◌, ◌∷◌, length, replicate, drop, map};
+ghost use Rattle.std.specs.Prelude.{◌≡◌, ◌<◌, ◌≤◌, ℕ, List, true, false, [], ◌++◌, ◌∷◌, length, map};
 ghost use Rattle.std.specs.Prelude.{OnOk, IfOk, IsSomeAnd};
 ghost use Rattle.ds_plain.specs.declared.Cue.{Cue};
-ghost use Rattle.ds_plain.specs.declared.Stop.TheVariants.{Idle};
 ghost use Rattle.ds_plain.specs.Thread.{first_thread};
 ghost use Rattle.ds_plain.specs.Asking.{HasRows};
 ghost use Rattle.ds_plain.specs.Explained.{IsRecord, HasEnded, stop_in};
 ghost use Rattle.ds_plain.specs.Turns.{IsScheduledOrder};
 ghost use Rattle.ds_code.specs.CodeProgram.{program_of};
 ghost use Rattle.ds_schedule.specs.Standing.{main_has_ended};
-ghost use Rattle.ds_core.specs.Standing.{AreActors, Runs, main_left, actor_stop};
+ghost use Rattle.ds_core.specs.Standing.{AreActors, Runs, all_left, actor_stop};
 
 use crate::lists::{Order, Stops, Traces};
 use crate::record::RunRecord;
@@ -81,7 +80,7 @@ impl<'a> Recorder<'a> {
             self.old.actors.items self.old.traces self.old.order self.old.progress → Runs code.now limits.now cues seed
             self.new.table self.new.actors.items self.new.traces self.new.order self.new.progress) }
         ensures nearer { OnOk result
-            (main_left limits.now self.new.actors.items < main_left limits.now self.old.actors.items) }
+            (all_left limits.now.fuel self.new.actors.items < all_left limits.now.fuel self.old.actors.items) }
     {
         one_step_more();
         let thread = self.progress.next();
@@ -143,8 +142,6 @@ pub fn replay(
         limits.now schedule.now.cues schedule.now.seed run.traces)) }
     ensures sixteen_stops { IfOk result (λ run. length run.stops ≡ 16) }
     ensures main_ended { IfOk result (λ run. HasEnded (stop_in run.stops 0)) }
-    ensures main_alone { IfOk result (λ run. IsSomeAnd run.order (λ order. order ≡ replicate (length order) 0)) }
-    ensures others_idle { IfOk result (λ run. drop 1 run.stops ≡ replicate 15 Idle) }
 {
     standing_is_recorded();
     let ended = run(alloc, code, limits, schedule)?;

@@ -1,7 +1,7 @@
 use Rattle.std.proofs.Common.{List, map, ap, ◌∙◌}
 use Rattle.ds_actor.specs.Actors.{ActorState}
 use Rattle.ds_core.specs.Standing.{actor_stop}
-use Rattle.ds_core.proofs.Recorded.{recorded, sixteen_stops, all_idle, main_ended, ordered}
+use Rattle.ds_core.proofs.Recorded.{recorded, sixteen_stops, main_ended, ordered}
 use Rattle.ds_core.proofs.replaying.replay.Goals as goal
 
 pub returns-clause-record : goal.returns-clause-record
@@ -27,12 +27,3 @@ returns-clause-main_ended c =
     main_ended c.standing_is_recorded.ensures c.args.code.now c.args.limits.now _ _ _ _ _ _ _
     c.in_ok-ended.ensures.runs _ (c.in_ok-stops.ensures ∙ ap (λ (actors : List ActorState). map actor_stop actors)
     c.as_slice.ensures.value) c.in_ok-ended.ensures.ended
-
-pub returns-clause-main_alone : goal.returns-clause-main_alone
-returns-clause-main_alone c = c.in_ok-ended.ensures.runs.alone
-
-pub returns-clause-others_idle : goal.returns-clause-others_idle
-returns-clause-others_idle c =
-    all_idle c.standing_is_recorded.ensures c.args.code.now c.args.limits.now _ _ _ _ _ _ _
-    c.in_ok-ended.ensures.runs _ (c.in_ok-stops.ensures ∙ ap (λ (actors : List ActorState). map actor_stop actors)
-    c.as_slice.ensures.value)

@@ -1,4 +1,4 @@
-use Rattle.ds_core.specs.Standing.{Runs, main_left}
+use Rattle.ds_core.specs.Standing.{Runs, all_left}
 use Rattle.ds_core.proofs.replaying.run.Given as goal
 
 -- the turns so far stand
@@ -7,6 +7,6 @@ invariant-loop-recorder l =
     Runs l.code l.limits l.schedule.cues l.schedule.seed l.recorder.table l.recorder.actors.items l.recorder.traces
     l.recorder.order l.recorder.progress
 
--- main comes nearer to its end
+-- all threads come nearer to their ends
 abbrev pub decreases-loop-recorder : goal.decreases-loop-recorder
-decreases-loop-recorder l = main_left l.limits l.recorder.actors.items
+decreases-loop-recorder l = all_left l.limits.fuel l.recorder.actors.items

@@ -1,31 +1,23 @@
 use Rattle.std.proofs.Common.{arith, refl, ap, ◌∙◌}
 use Rattle.ds_actor.specs.Actors.{step_in}
-use Rattle.ds_core.specs.Standing.{IsActor}
 use Rattle.ds_core.proofs.Turned.{actor_here, goes_here, whole_here, turned, turned_nearer}
 use Rattle.ds_core.proofs.replaying.Recorder.turn.Goals as goal
 
 pub turn-made-requires-clause-goes_on : goal.turn-made-requires-clause-goes_on
 turn-made-requires-clause-goes_on c =
-    goes_here c.args.code.now c.args.limits.now _ _ _ _ _ _ _ c.requires.runs.2 c.index_mut.result.now
-    c.requires.goes_on
-    (actor_here c.args.code.now c.args.limits.now _ _ _ _ _ _ _ c.requires.runs.2 c.next-thread.result
-    c.from-place.result c.index_mut.result.now c.next-thread.ensures.may c.from-place.ensures
-    c.index_mut.ensures.value)
+    goes_here c.args.code.now c.args.limits.now _ _ _ _ _ _ _ c.requires.runs.2 c.next-thread.result
+    c.from-place.result c.index_mut.result.now c.next-thread.ensures.may c.from-place.ensures c.index_mut.ensures.value
 
 pub turn-made-requires-clause-row : goal.turn-made-requires-clause-row
 turn-made-requires-clause-row c =
-    let is : IsActor c.args.code.now c.args.limits.now 0 (c.requires.runs.2.threads 0) c.index_mut.result.now =
-    actor_here c.args.code.now c.args.limits.now _ _ _ _ _ _ _ c.requires.runs.2 c.next-thread.result
-    c.from-place.result c.index_mut.result.now c.next-thread.ensures.may c.from-place.ensures
-    c.index_mut.ensures.value in
+    let is = actor_here c.args.code.now c.args.limits.now _ _ _ _ _ _ _ c.requires.runs.2 c.next-thread.result
+    c.from-place.result c.index_mut.result.now c.next-thread.ensures.may c.from-place.ensures c.index_mut.ensures.value in
     omega (arith, is.row)
 
 pub turn-made-requires-clause-whole : goal.turn-made-requires-clause-whole
 turn-made-requires-clause-whole c =
-    whole_here c.args.code.now c.args.limits.now _ _ _ _ _ _ _ c.requires.runs.2 c.index_mut.result.now
-    (actor_here c.args.code.now c.args.limits.now _ _ _ _ _ _ _ c.requires.runs.2 c.next-thread.result
-    c.from-place.result c.index_mut.result.now c.next-thread.ensures.may c.from-place.ensures
-    c.index_mut.ensures.value)
+    whole_here c.args.code.now c.args.limits.now _ _ _ _ _ _ _ c.requires.runs.2 c.next-thread.result
+    c.from-place.result c.index_mut.result.now c.next-thread.ensures.may c.from-place.ensures c.index_mut.ensures.value
 
 pub returns-clause-runs : goal.returns-clause-runs
 returns-clause-runs c = λ cues seed runs.
