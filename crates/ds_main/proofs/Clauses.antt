@@ -8,7 +8,7 @@ use Rattle.ds_ast.specs.declared.module.Module.{Module}
 use Rattle.ds_io.specs.Sink.{Takes, TakesFront}
 use Rattle.ds_print.specs.Canonical.{canon}
 use Rattle.ds_report.specs.declared.fault.Fault.{Fault}
-use Rattle.ds_report.specs.declared.fault.Fault.TheVariants.{Usage, Read, TooLong, Parse, Shape, Check, OtherForm}
+use Rattle.ds_report.specs.declared.fault.Fault.TheVariants.{Usage, Read, TooLong, Parse, Shape, Check}
 use Rattle.ds_report.specs.Fault.{fault_text}
 use Rattle.ds_map.specs.Bounds.{Bounds}
 use Rattle.ds_plain.specs.Explained.{is_fuel, stop_in}
@@ -17,7 +17,7 @@ use Rattle.ds_report.specs.Stop.{is_trap}
 use Rattle.ds_report_laws.specs.Laws.{ReportsOfRuns}
 use Rattle.ds_main.specs.declared.job.Job.{Job}
 use Rattle.ds_main.specs.declared.job.Job.TheVariants as jobs
-use Rattle.ds_main.specs.Job.{limits_in, IsJob, HasJob, NoJob, IsReplay}
+use Rattle.ds_main.specs.Job.{Setting, setting_in, IsJob, HasJob, NoJob}
 use Rattle.ds_main.specs.Input.{IsAccepted, IsModuleOfInput, SpellsAccepted, Held, function_names}
 use Rattle.ds_main.specs.Refusal.{IsRefused, AcceptedInputsAreNotRefused}
 use Rattle.ds_main.specs.Text.{IsTextOf, accepted_text}
@@ -29,35 +29,39 @@ use Rattle.ds_main.specs.Ending.{ReadRose, WriteRose, IsReadOut, Writing, Call, 
 use Rattle.ds_main.specs.Ending.{Ends}
 use Rattle.ds_main.proofs.Endings.{by_ending}
 
--- words have one list of limits
-one_limits : (words : List (List ℕ)) (lim other : Bounds) → IsJob words (jobs.Replay lim)
-    → IsJob words (jobs.Replay other) → lim ≡ other
-one_limits words lim other a b =
-    let e : ◌≡◌ {A = Option Bounds} (Some lim) (Some other) = sym a ∙ b in cc e
+-- a seed and limits as one
+abbrev both : ℕ → Bounds → Setting
+both seed lim = record { seed = seed; limits = lim }
+
+-- words ask for one seed and one list of limits
+one_setting : (words : List (List ℕ)) (seed other : ℕ) (lim limits : Bounds) → IsJob words (jobs.Replay seed lim)
+    → IsJob words (jobs.Replay other limits) → both seed lim ≡ both other limits
+one_setting words seed other lim limits a b =
+    let e : ◌≡◌ {A = Option Setting} (Some (both seed lim)) (Some (both other limits)) = sym a ∙ b in cc e
 
 -- a job that runs nothing has one word, which is not `replay`
-not_check : (words : List (List ℕ)) (lim : Bounds) → words ≡ codes "check" ∷ [] → IsJob words (jobs.Replay lim) → ⊥
-not_check words lim one is =
-    let e : ◌≡◌ {A = Option Bounds} None (Some lim) = ap limits_in (sym one) ∙ is in absurd (cc e)
+not_check : (words : List (List ℕ)) (seed : ℕ) (lim : Bounds) → words ≡ codes "check" ∷ []
+    → IsJob words (jobs.Replay seed lim) → ⊥
+not_check words seed lim one is =
+    let e : ◌≡◌ {A = Option Setting} None (Some (both seed lim)) = ap setting_in (sym one) ∙ is in absurd (cc e)
 
-not_instrument : (words : List (List ℕ)) (lim : Bounds) → words ≡ codes "instrument" ∷ []
-    → IsJob words (jobs.Replay lim) → ⊥
-not_instrument words lim one is =
-    let e : ◌≡◌ {A = Option Bounds} None (Some lim) = ap limits_in (sym one) ∙ is in absurd (cc e)
+not_instrument : (words : List (List ℕ)) (seed : ℕ) (lim : Bounds) → words ≡ codes "instrument" ∷ []
+    → IsJob words (jobs.Replay seed lim) → ⊥
+not_instrument words seed lim one is =
+    let e : ◌≡◌ {A = Option Setting} None (Some (both seed lim)) = ap setting_in (sym one) ∙ is in absurd (cc e)
 
 -- words are of one job
 one_job : (words : List (List ℕ)) (job other : Job) → IsJob words job → IsJob words other → job ≡ other
-one_job words (jobs.Replay lim) (jobs.Replay other) a b = ap jobs.Replay (one_limits words lim other a b)
+one_job words (jobs.Replay seed lim) (jobs.Replay other limits) a b =
+    ap (λ (s : Setting). jobs.Replay s.seed s.limits) (one_setting words seed other lim limits a b)
 one_job words jobs.Check jobs.Check a b = refl
 one_job words jobs.Instrument jobs.Instrument a b = refl
-one_job words (jobs.Replay lim) jobs.Check a b = absurd (not_check words lim b a)
-one_job words (jobs.Replay lim) jobs.Instrument a b =
-    absurd (not_instrument words lim b a)
-one_job words jobs.Check (jobs.Replay lim) a b = absurd (not_check words lim a b)
+one_job words (jobs.Replay seed lim) jobs.Check a b = absurd (not_check words seed lim b a)
+one_job words (jobs.Replay seed lim) jobs.Instrument a b = absurd (not_instrument words seed lim b a)
+one_job words jobs.Check (jobs.Replay seed lim) a b = absurd (not_check words seed lim a b)
 one_job words jobs.Check jobs.Instrument a b =
     let e : codes "check" ∷ [] ≡ codes "instrument" ∷ [] = sym a ∙ b in absurd (cc e)
-one_job words jobs.Instrument (jobs.Replay lim) a b =
-    absurd (not_instrument words lim a b)
+one_job words jobs.Instrument (jobs.Replay seed lim) a b = absurd (not_instrument words seed lim a b)
 one_job words jobs.Instrument jobs.Check a b =
     let e : codes "instrument" ∷ [] ≡ codes "check" ∷ [] = sym a ∙ b in absurd (cc e)
 
@@ -67,15 +71,15 @@ text_of call job is x =
     subst (λ (j : Job). IsTextOf j x.input_module x.text) (one_job call.words x.job job x.is_job is) x.text_of
 
 -- a module that is run has no other text
-no_text : (call : Call) (lim : Bounds) → IsJob call.words (jobs.Replay lim) → Answered call → ⊥
-no_text call lim is x = text_of call (jobs.Replay lim) is x
+no_text : (call : Call) (seed : ℕ) (lim : Bounds) → IsJob call.words (jobs.Replay seed lim) → Answered call → ⊥
+no_text call seed lim is x = text_of call (jobs.Replay seed lim) is x
 
 pub headline : (call : Call) → Ends call
     → IsEmpty call.ended.run
-    ⊎ ((lim : Bounds) × IsJob call.words (jobs.Replay lim) × (m : Module)
-    × IsRunOfInput call.source.left lim m call.ended.run)
+    ⊎ ((seed : ℕ) × (lim : Bounds) × IsJob call.words (jobs.Replay seed lim) × (m : Module)
+    × IsRunOfInput call.source.left seed lim m call.ended.run)
 headline call ends =
-    by_ending call _ (λ x. inl x.empty) (λ x. inr (x.lim, x.job, x.input_module, x.run)) (λ x. inl x.empty)
+    by_ending call _ (λ x. inl x.empty) (λ x. inr (x.seed, x.lim, x.job, x.input_module, x.run)) (λ x. inl x.empty)
     (λ x. x.run) ends
 
 -- what was delivered with another status than 5 was written whole
@@ -104,7 +108,6 @@ fault_status TooLong = inl refl
 fault_status (Parse fault) = inl refl
 fault_status (Shape fault) = inl refl
 fault_status (Check fault names) = inl refl
-fault_status OtherForm = inl refl
 
 not_fault : (status : ℕ) → IsFaultStatus status → (status ≡ 0 → ⊥) × (status ≡ 5 → ⊥) × (status ≡ 6 → ⊥)
 not_fault status (inl a) = ((λ e. absurd (omega arith)), (λ e. absurd (omega arith)), (λ e. absurd (omega arith)))
@@ -163,58 +166,59 @@ by_done call P is a b ends =
     (λ x. b x (whole x.text 0 call.sink call.ended.status other x.told))
     (λ x. absurd ((not_run call.ended.status is).1 x.unwritten.0)) ends
 
--- what was reported is a run within the limits of the words
-within : (call : Call) (lim : Bounds) → IsJob call.words (jobs.Replay lim) → (x : Reported call)
-    → IsRunOfInput call.source.left lim x.input_module call.ended.run
-within call lim job x =
-    subst (λ (l : Bounds). IsRunOfInput call.source.left l x.input_module call.ended.run)
-    (one_limits call.words x.lim lim x.job job) x.run
+-- what was reported is a run by the seed and within the limits of the words
+within : (call : Call) (seed : ℕ) (lim : Bounds) → IsJob call.words (jobs.Replay seed lim) → (x : Reported call)
+    → IsRunOfInput call.source.left seed lim x.input_module call.ended.run
+within call seed lim job x =
+    subst (λ (s : Setting). IsRunOfInput call.source.left s.seed s.limits x.input_module call.ended.run)
+    (one_setting call.words x.seed seed x.lim lim x.job job) x.run
 
-pub ran : (call : Call) → Ends call → (lim : Bounds) → IsJob call.words (jobs.Replay lim)
-    → IsRunStatus call.ended.status → (m : Module) × IsRunOfInput call.source.left lim m call.ended.run
-ran call ends lim job is =
-    by_done call _ is (λ x w. (x.input_module, within call lim job x)) (λ x w. absurd (no_text call lim job x)) ends
+pub ran : (call : Call) → Ends call → (seed : ℕ) (lim : Bounds) → IsJob call.words (jobs.Replay seed lim)
+    → IsRunStatus call.ended.status → (m : Module) × IsRunOfInput call.source.left seed lim m call.ended.run
+ran call ends seed lim job is =
+    by_done call _ is (λ x w. (x.input_module, within call seed lim job x)) (λ x w. absurd (no_text call seed lim job x)) ends
 
 -- the report of a run is that of the plain machine's
-told_plainly : ReportsOfRuns → (call : Call) (lim : Bounds) (m : Module) (text : List ℕ)
-    → IsRunOfInput call.source.left lim m call.ended.run
+told_plainly : ReportsOfRuns → (call : Call) (seed : ℕ) (lim : Bounds) (m : Module) (text : List ℕ)
+    → IsRunOfInput call.source.left seed lim m call.ended.run
     → IsReport (function_names m) call.ended.run.stops call.ended.run.traces false text
     → IsReportOfEachOrder lim m call.ended.run text
-told_plainly law call lim m text run report =
+told_plainly law call seed lim m text run report =
     (law (function_names m) false (read_program lim m) lim call.ended.run.stops call.ended.run.traces text
     run.run_of.sixteen_stops run.run_of.explained report).1
 
-pub reported : (call : Call) → ReportsOfRuns → Ends call → (lim : Bounds) → IsJob call.words (jobs.Replay lim)
-    → IsRunStatus call.ended.status
-    → (m : Module) × IsRunOfInput call.source.left lim m call.ended.run × (text : List ℕ)
+pub reported : (call : Call) → ReportsOfRuns → Ends call → (seed : ℕ) (lim : Bounds)
+    → IsJob call.words (jobs.Replay seed lim) → IsRunStatus call.ended.status
+    → (m : Module) × IsRunOfInput call.source.left seed lim m call.ended.run × (text : List ℕ)
     × IsReport (function_names m) call.ended.run.stops call.ended.run.traces false text
     × IsReportOfEachOrder lim m call.ended.run text
     × Takes call.sink.taken text call.sink.taken_after
-reported call law ends lim job is =
+reported call law ends seed lim job is =
     by_done call _ is
     (λ x w. (
       x.input_module,
-      within call lim job x,
+      within call seed lim job x,
       x.text,
       x.report,
-      told_plainly law call lim x.input_module x.text (within call lim job x) x.report,
+      told_plainly law call seed lim x.input_module x.text (within call seed lim job x) x.report,
       w.1,
     ))
-    (λ x w. absurd (no_text call lim job x)) ends
+    (λ x w. absurd (no_text call seed lim job x)) ends
 
-pub run_status_is : (call : Call) → Ends call → (lim : Bounds) → IsJob call.words (jobs.Replay lim)
+pub run_status_is : (call : Call) → Ends call → (seed : ℕ) (lim : Bounds) → IsJob call.words (jobs.Replay seed lim)
     → IsRunStatus call.ended.status → call.ended.status ≡ run_status call.ended.run.stops
-run_status_is call ends lim job is =
-    by_done call _ is (λ x w. w.0) (λ x w. absurd (no_text call lim job x)) ends
+run_status_is call ends seed lim job is =
+    by_done call _ is (λ x w. w.0) (λ x w. absurd (no_text call seed lim job x)) ends
 
 -- with status 0 a job that runs nothing has written its text
-answered : (call : Call) → Ends call → (job : Job) → ((lim : Bounds) → job ≡ jobs.Replay lim → ⊥)
+answered : (call : Call) → Ends call → (job : Job) → ((seed : ℕ) (lim : Bounds) → job ≡ jobs.Replay seed lim → ⊥)
     → IsJob call.words job
     → call.ended.status ≡ 0
     → (m : Module) × IsModuleOfInput call.source.left m × (text : List ℕ) × IsTextOf job m text
     × Takes call.sink.taken text call.sink.taken_after
 answered call ends job other is zero =
-    by_done call _ (inl zero) (λ x w. absurd (other x.lim (one_job call.words job (jobs.Replay x.lim) is x.job)))
+    by_done call _ (inl zero) (λ x w. absurd (other x.seed x.lim
+    (one_job call.words job (jobs.Replay x.seed x.lim) is x.job)))
     (λ x w. (x.input_module, x.of_input, x.text, text_of call job is x, w.1)) ends
 
 -- that is the text that the job has of each module
@@ -229,17 +233,18 @@ by_text call job text same (m, of, bytes, is, written) =
 pub checked : (call : Call) → Ends call → IsJob call.words jobs.Check → call.ended.status ≡ 0
     → (m : Module) × IsModuleOfInput call.source.left m × Takes call.sink.taken (accepted_text m) call.sink.taken_after
 checked call ends is zero =
-    by_text call jobs.Check accepted_text (λ m bytes e. e) (answered call ends jobs.Check (λ lim e. absurd (cc e)) is zero)
+    by_text call jobs.Check accepted_text (λ m bytes e. e)
+    (answered call ends jobs.Check (λ seed lim e. absurd (cc e)) is zero)
 
 pub instrumented : (call : Call) → Ends call → IsJob call.words jobs.Instrument → call.ended.status ≡ 0
     → (m : Module) × IsModuleOfInput call.source.left m × Takes call.sink.taken (canon m) call.sink.taken_after
 instrumented call ends is zero =
     by_text call jobs.Instrument canon (λ m bytes e. e)
-    (answered call ends jobs.Instrument (λ lim e. absurd (cc e)) is zero)
+    (answered call ends jobs.Instrument (λ seed lim e. absurd (cc e)) is zero)
 
 pub of_replay : (call : Call) → Ends call → IsRunStatus call.ended.status → ¬ (call.ended.status ≡ 0)
-    → (lim : Bounds) × IsJob call.words (jobs.Replay lim)
-of_replay call ends is other = by_done call _ is (λ x w. (x.lim, x.job)) (λ x w. absurd (other w.0)) ends
+    → (seed : ℕ) × (lim : Bounds) × IsJob call.words (jobs.Replay seed lim)
+of_replay call ends is other = by_done call _ is (λ x w. (x.seed, x.lim, x.job)) (λ x w. absurd (other w.0)) ends
 
 pub read_out : (call : Call) → Ends call → IsRunStatus call.ended.status
     → call.source.left_after ≡ option_map (λ _. []) call.source.left
@@ -254,34 +259,26 @@ due_at_2 words left rose TooLong e due = absurd (omega arith)
 due_at_2 words left rose (Parse fault) e due = absurd (omega arith)
 due_at_2 words left rose (Shape fault) e due = absurd (omega arith)
 due_at_2 words left rose (Check fault names) e due = absurd (omega arith)
-due_at_2 words left rose OtherForm e due = absurd (omega arith)
 
 due_at_4 : (words : List (List ℕ)) (left : Option (List ℕ)) (rose : Type 0) (fault : Fault) → status_of fault ≡ 4
     → IsDue words left rose fault → HasJob words × rose
 due_at_4 words left rose Usage e due = absurd (omega arith)
-due_at_4 words left rose Read e due = ((due.0, due.1), due.2.1)
+due_at_4 words left rose Read e due = (due.0, due.1.1)
 due_at_4 words left rose TooLong e due = absurd (omega arith)
 due_at_4 words left rose (Parse fault) e due = absurd (omega arith)
 due_at_4 words left rose (Shape fault) e due = absurd (omega arith)
 due_at_4 words left rose (Check fault names) e due = absurd (omega arith)
-due_at_4 words left rose OtherForm e due = absurd (omega arith)
-
--- a job and what its input is refused for
-abbrev RefusedJob : List (List ℕ) → Option (List ℕ) → Type 0
-RefusedJob words left = (job : Job) × IsJob words job × Held left (IsRefused job)
 
 due_at_1 : (words : List (List ℕ)) (left : Option (List ℕ)) (rose : Type 0) (fault : Fault) → status_of fault ≡ 1
-    → IsDue words left rose fault → RefusedJob words left
+    → IsDue words left rose fault → HasJob words × Held left IsRefused
 due_at_1 words left rose Usage e due = absurd (omega arith)
 due_at_1 words left rose Read e due = absurd (omega arith)
-due_at_1 words left rose TooLong e due = (due.0, due.1, λ bytes held. inl (due.2.1 bytes held))
-due_at_1 words left rose (Parse fault) e due = (due.0, due.1, λ bytes held. inr (inl (fault, due.2.1 bytes held)))
+due_at_1 words left rose TooLong e due = (due.0, λ bytes held. inl (due.1.1 bytes held))
+due_at_1 words left rose (Parse fault) e due = (due.0, λ bytes held. inr (inl (fault, due.1.1 bytes held)))
 due_at_1 words left rose (Shape fault) e due =
-    (due.0, due.1, λ bytes held. inr (inr (inl (Shape fault, due.2.1 bytes held))))
+    (due.0, λ bytes held. inr (inr (Shape fault, due.1.1 bytes held)))
 due_at_1 words left rose (Check fault names) e due =
-    (due.0, due.1, λ bytes held. inr (inr (inl (Check fault names, due.2.1 bytes held))))
-due_at_1 words left rose OtherForm e due =
-    (due.0, due.1, λ bytes held. inr (inr (inr (due.2.1.0, due.2.1.1 bytes held))))
+    (due.0, λ bytes held. inr (inr (Check fault names, due.1.1 bytes held)))
 
 -- with a status of a fault the call was refused
 by_fault : (call : Call) (P : Type 0) → IsFaultStatus call.ended.status
@@ -309,8 +306,8 @@ read_failed call ends four =
     by_fault call _ (inr (inr four))
     (λ x w. due_at_4 call.words call.source.left (ReadRose call.source) x.fault (sym w.0 ∙ four) x.due) ends
 
-pub refused : (call : Call) → Ends call → call.ended.status ≡ 1 → (job : Job) × IsJob call.words job
-    × Held call.source.left (IsRefused job)
+pub refused : (call : Call) → Ends call → call.ended.status ≡ 1
+    → HasJob call.words × Held call.source.left IsRefused
 refused call ends one =
     by_fault call _ (inl one)
     (λ x w. due_at_1 call.words call.source.left (ReadRose call.source) x.fault (sym w.0 ∙ one) x.due) ends
@@ -319,12 +316,11 @@ refused call ends one =
 due_without_job : (words : List (List ℕ)) (left : Option (List ℕ)) (rose : Type 0) (fault : Fault) → NoJob words
     → IsDue words left rose fault → status_of fault ≡ 2
 due_without_job words left rose Usage none due = refl
-due_without_job words left rose Read none due = absurd (none due.0 due.1)
-due_without_job words left rose TooLong none due = absurd (none due.0 due.1)
-due_without_job words left rose (Parse fault) none due = absurd (none due.0 due.1)
-due_without_job words left rose (Shape fault) none due = absurd (none due.0 due.1)
-due_without_job words left rose (Check fault names) none due = absurd (none due.0 due.1)
-due_without_job words left rose OtherForm none due = absurd (none due.0 due.1)
+due_without_job words left rose Read none due = absurd (none due.0.0 due.0.1)
+due_without_job words left rose TooLong none due = absurd (none due.0.0 due.0.1)
+due_without_job words left rose (Parse fault) none due = absurd (none due.0.0 due.0.1)
+due_without_job words left rose (Shape fault) none due = absurd (none due.0.0 due.0.1)
+due_without_job words left rose (Check fault names) none due = absurd (none due.0.0 due.0.1)
 
 pub usage_is_told : (call : Call) → Ends call → NoJob call.words
     → (call.ended.status ≡ 2) ⊎ IsCutShort call.ended.status
@@ -334,70 +330,42 @@ usage_is_told call ends none =
       | inl w ↦ inl (w.0 ∙ due_without_job call.words call.source.left (ReadRose call.source) x.fault none x.due)
       | inr w ↦ inr (inl w.0)
     ] in
-    by_ending call _ told (λ x. absurd (none (jobs.Replay x.lim) x.job)) (λ x. absurd (none x.job x.is_job))
+    by_ending call _ told (λ x. absurd (none (jobs.Replay x.seed x.lim) x.job)) (λ x. absurd (none x.job x.is_job))
     (λ x. inr (inr x.unwritten.0)) ends
 
 -- where a job has the words, the fault is one of the input
-due_with_job : (words : List (List ℕ)) (left : Option (List ℕ)) (rose : Type 0) (fault : Fault) (job : Job)
-    → IsJob words job → IsDue words left rose fault → (status_of fault ≡ 1) ⊎ ((status_of fault ≡ 4) × rose)
-due_with_job words left rose Usage job is due = absurd (due job is)
-due_with_job words left rose Read job is due = inr (refl, due.2.1)
-due_with_job words left rose TooLong job is due = inl refl
-due_with_job words left rose (Parse fault) job is due = inl refl
-due_with_job words left rose (Shape fault) job is due = inl refl
-due_with_job words left rose (Check fault names) job is due = inl refl
-due_with_job words left rose OtherForm job is due = inl refl
-
--- what was run was accepted
-run_is_accepted : (left : Option (List ℕ)) (call : Call) (bytes : List ℕ) (lim : Bounds) (m : Module)
-    → left ≡ Some bytes → IsRunOfInput left lim m call.ended.run → IsAccepted (jobs.Replay lim) bytes
-run_is_accepted left call bytes lim m held run = (
-  m,
-  (
-    subst (λ (b : List ℕ). SpellsAccepted b m) (sym (run.of_input.held bytes held)) run.of_input.spelled,
-    run.form,
-  ),
-)
-
--- an input that spells an accepted module is accepted for a job that has a text
-text_is_accepted : (job : Job) (bytes : List ℕ) (m : Module) (text : List ℕ) → IsTextOf job m text
-    → SpellsAccepted bytes m → IsAccepted job bytes
-text_is_accepted (jobs.Replay lim) bytes m text is spelled = absurd is
-text_is_accepted jobs.Check bytes m text is spelled = (m, spelled)
-text_is_accepted jobs.Instrument bytes m text is spelled = (m, spelled)
-
-answer_is_accepted : (call : Call) (bytes : List ℕ) → call.source.left ≡ Some bytes → (x : Answered call)
-    → IsAccepted x.job bytes
-answer_is_accepted call bytes held x =
-    text_is_accepted x.job bytes x.input_module x.text x.text_of
-    (subst (λ (b : List ℕ). SpellsAccepted b x.input_module) (sym (x.of_input.held bytes held)) x.of_input.spelled)
+due_with_job : (words : List (List ℕ)) (left : Option (List ℕ)) (rose : Type 0) (fault : Fault)
+    → HasJob words → IsDue words left rose fault → (status_of fault ≡ 1) ⊎ ((status_of fault ≡ 4) × rose)
+due_with_job words left rose Usage job due = absurd (due job.0 job.1)
+due_with_job words left rose Read job due = inr (refl, due.1.1)
+due_with_job words left rose TooLong job due = inl refl
+due_with_job words left rose (Parse fault) job due = inl refl
+due_with_job words left rose (Shape fault) job due = inl refl
+due_with_job words left rose (Check fault names) job due = inl refl
 
 -- the input of a job that was done was accepted
-done_is_accepted : (words : List (List ℕ)) (bytes : List ℕ) (job other : Job) → IsJob words job → IsJob words other
-    → IsAccepted other bytes → IsAccepted job bytes
-done_is_accepted words bytes job other a b accepted =
-    subst (λ (j : Job). IsAccepted j bytes) (one_job words other job b a) accepted
+is_accepted : (left : Option (List ℕ)) (bytes : List ℕ) (m : Module) → left ≡ Some bytes → IsModuleOfInput left m
+    → IsAccepted bytes
+is_accepted left bytes m held of =
+    (m, subst (λ (b : List ℕ). SpellsAccepted b m) (sym (of.held bytes held)) of.spelled)
 
-pub refusal_is_told : (call : Call) → AcceptedInputsAreNotRefused → Ends call → (job : Job) → IsJob call.words job
+pub refusal_is_told : (call : Call) → AcceptedInputsAreNotRefused → Ends call → HasJob call.words
     → Held call.source.left
-    (λ bytes. IsRefused job bytes → (call.ended.status ≡ 1) ⊎ ((call.ended.status ≡ 4) × ReadRose call.source)
+    (λ bytes. IsRefused bytes → (call.ended.status ≡ 1) ⊎ ((call.ended.status ≡ 4) × ReadRose call.source)
     ⊎ IsCutShort call.ended.status)
-refusal_is_told call law ends job is bytes held bad =
+refusal_is_told call law ends job bytes held bad =
     let told : (x : Refused call) → (call.ended.status ≡ 1) ⊎ ((call.ended.status ≡ 4) × ReadRose call.source)
     ⊎ IsCutShort call.ended.status = λ x.
     elim x.told [
-      | inl w ↦ elim (due_with_job call.words call.source.left (ReadRose call.source) x.fault job is x.due) [
+      | inl w ↦ elim (due_with_job call.words call.source.left (ReadRose call.source) x.fault job x.due) [
         | inl one ↦ inl (w.0 ∙ one)
         | inr four ↦ inr (inl (w.0 ∙ four.0, four.1))
       ]
       | inr w ↦ inr (inr (inl w.0))
     ] in
     by_ending call _ told
-    (λ x. absurd (law job bytes
-    (done_is_accepted call.words bytes job (jobs.Replay x.lim) is x.job
-    (run_is_accepted call.source.left call bytes x.lim x.input_module held x.run)) bad))
-    (λ x. absurd (law job bytes
-    (done_is_accepted call.words bytes job x.job is x.is_job (answer_is_accepted call bytes held x)) bad))
+    (λ x. absurd (law bytes (is_accepted call.source.left bytes x.input_module held x.run.of_input) bad))
+    (λ x. absurd (law bytes (is_accepted call.source.left bytes x.input_module held x.of_input) bad))
     (λ x. inr (inr (inr x.unwritten.0))) ends
 
 pub fault_line : (call : Call) → Ends call → IsFaultStatus call.ended.status
@@ -421,7 +389,7 @@ write_failed call ends five =
     x.told in (p.0, fault_text x.fault, inl (x.fault, x.due, x.empty, refl), p.1))
     (λ x.
     let p = in_part x.text (run_status call.ended.run.stops) call.sink call.ended.status other_run five x.told in
-    (p.0, x.text, inr (inl (x.lim, x.job, x.input_module, x.run, x.report)), p.1))
+    (p.0, x.text, inr (inl (x.seed, x.lim, x.job, x.input_module, x.run, x.report)), p.1))
     (λ x.
     let p = in_part x.text 0 call.sink call.ended.status (λ e. absurd (omega (arith, e))) five x.told in
     (p.0, x.text, inr (inr (x.job, x.is_job, x.input_module, x.of_input, x.empty, x.text_of)), p.1))
@@ -452,49 +420,47 @@ statuses call ends =
     by_ending call _ told ran done (λ x. inr (inr (inr x.unwritten.0))) ends
 
 -- an accepted input whose source did not fail has no fault
-no_fault : (words : List (List ℕ)) (left : Option (List ℕ)) (rose : Type 0) (fault : Fault) (job : Job)
-    (bytes : List ℕ) → AcceptedInputsAreNotRefused → IsJob words job → left ≡ Some bytes → IsAccepted job bytes
-    → ¬ rose → IsDue words left rose fault → ⊥
-no_fault words left rose Usage job bytes law is held accepted calm due = due job is
-no_fault words left rose Read job bytes law is held accepted calm due = calm due.2.1
-no_fault words left rose TooLong job bytes law is held accepted calm due =
-    law job bytes accepted (inl (due.2.1 bytes held))
-no_fault words left rose (Parse fault) job bytes law is held accepted calm due =
-    law job bytes accepted (inr (inl (fault, due.2.1 bytes held)))
-no_fault words left rose (Shape fault) job bytes law is held accepted calm due =
-    law job bytes accepted (inr (inr (inl (Shape fault, due.2.1 bytes held))))
-no_fault words left rose (Check fault names) job bytes law is held accepted calm due =
-    law job bytes accepted (inr (inr (inl (Check fault names, due.2.1 bytes held))))
-no_fault words left rose OtherForm job bytes law is held accepted calm due =
-    law job bytes accepted
-    (inr (inr (inr (subst IsReplay (one_job words due.0 job due.1 is) due.2.1.0, due.2.1.1 bytes held))))
+no_fault : (words : List (List ℕ)) (left : Option (List ℕ)) (rose : Type 0) (fault : Fault) (bytes : List ℕ)
+    → AcceptedInputsAreNotRefused → HasJob words → left ≡ Some bytes → IsAccepted bytes → ¬ rose
+    → IsDue words left rose fault → ⊥
+no_fault words left rose Usage bytes law job held accepted calm due = due job.0 job.1
+no_fault words left rose Read bytes law job held accepted calm due = calm due.1.1
+no_fault words left rose TooLong bytes law job held accepted calm due =
+    law bytes accepted (inl (due.1.1 bytes held))
+no_fault words left rose (Parse fault) bytes law job held accepted calm due =
+    law bytes accepted (inr (inl (fault, due.1.1 bytes held)))
+no_fault words left rose (Shape fault) bytes law job held accepted calm due =
+    law bytes accepted (inr (inr (Shape fault, due.1.1 bytes held)))
+no_fault words left rose (Check fault names) bytes law job held accepted calm due =
+    law bytes accepted (inr (inr (Check fault names, due.1.1 bytes held)))
 
 -- an empty record is of no run
-empty_or_run : (call : Call) (left : Option (List ℕ)) (lim : Bounds) (m : Module) → IsEmpty call.ended.run
-    → IsRunOfInput left lim m call.ended.run → ⊥
-empty_or_run call left lim m empty run = let stops : length call.ended.run.stops ≡ 0 = rw empty.no_stops refl in
+empty_or_run : (call : Call) (left : Option (List ℕ)) (seed : ℕ) (lim : Bounds) (m : Module) → IsEmpty call.ended.run
+    → IsRunOfInput left seed lim m call.ended.run → ⊥
+empty_or_run call left seed lim m empty run =
+    let stops : length call.ended.run.stops ≡ 0 = rw empty.no_stops refl in
     absurd (omega (arith, run.run_of.sixteen_stops, stops))
 
-pub run_is_made : (call : Call) → AcceptedInputsAreNotRefused → Ends call → (lim : Bounds)
-    → IsJob call.words (jobs.Replay lim)
-    → Held call.source.left (λ bytes. IsAccepted (jobs.Replay lim) bytes → ¬ ReadRose call.source
-    → IsEmpty call.ended.run → call.ended.status ≡ 6)
-run_is_made call law ends lim job bytes held accepted calm empty =
+pub run_is_made : (call : Call) → AcceptedInputsAreNotRefused → Ends call → (seed : ℕ) (lim : Bounds)
+    → IsJob call.words (jobs.Replay seed lim)
+    → Held call.source.left (λ bytes. IsAccepted bytes → ¬ ReadRose call.source → IsEmpty call.ended.run
+    → call.ended.status ≡ 6)
+run_is_made call law ends seed lim job bytes held accepted calm empty =
     by_ending call _
-    (λ x. absurd (no_fault call.words call.source.left (ReadRose call.source) x.fault (jobs.Replay lim) bytes law job
-    held accepted calm x.due))
-    (λ x. absurd (empty_or_run call call.source.left x.lim x.input_module empty x.run))
-    (λ x. absurd (no_text call lim job x)) (λ x. x.unwritten.0) ends
+    (λ x. absurd (no_fault call.words call.source.left (ReadRose call.source) x.fault bytes law
+    (jobs.Replay seed lim, job) held accepted calm x.due))
+    (λ x. absurd (empty_or_run call call.source.left x.seed x.lim x.input_module empty x.run))
+    (λ x. absurd (no_text call seed lim job x)) (λ x. x.unwritten.0) ends
 
-pub complete : (call : Call) → AcceptedInputsAreNotRefused → Ends call → (job : Job) → IsJob call.words job
-    → Held call.source.left (λ bytes. IsAccepted job bytes → ¬ ReadRose call.source → ¬ WriteRose call.sink
+pub complete : (call : Call) → AcceptedInputsAreNotRefused → Ends call → HasJob call.words
+    → Held call.source.left (λ bytes. IsAccepted bytes → ¬ ReadRose call.source → ¬ WriteRose call.sink
     → IsRunStatus call.ended.status ⊎ (call.ended.status ≡ 6))
-complete call law ends job is bytes held accepted calm quiet =
+complete call law ends job bytes held accepted calm quiet =
     let ran : (x : Reported call) → IsRunStatus call.ended.status ⊎ (call.ended.status ≡ 6) = λ x.
     elim x.told [ inl w ↦ inl (subst IsRunStatus (sym w.0) (run_status_in call)) | inr w ↦ absurd (quiet w.1) ] in
     let done : (x : Answered call) → IsRunStatus call.ended.status ⊎ (call.ended.status ≡ 6) = λ x.
     elim x.told [ inl w ↦ inl (inl w.0) | inr w ↦ absurd (quiet w.1) ] in
     by_ending call _
-    (λ x. absurd (no_fault call.words call.source.left (ReadRose call.source) x.fault job bytes law is held accepted
+    (λ x. absurd (no_fault call.words call.source.left (ReadRose call.source) x.fault bytes law job held accepted
     calm x.due))
     ran done (λ x. inr x.unwritten.0) ends

@@ -3,25 +3,22 @@ use Rattle.std.proofs.Common.{◌≡◌, ℕ, ◌⊎◌, inl, inr, List, Option,
 use Rattle.std.specs.Prelude.{IsErrOf}
 use Rattle.ds_ast.specs.declared.module.Module.{Module}
 use Rattle.ds_map.specs.Bounds.{Bounds}
-use Rattle.ds_form.specs.Form.{IsInForm}
-use Rattle.ds_io.specs.Source.{GivesAll}
 use Rattle.ds_core.specs.declared.record.Ended.{Ended}
 use Rattle.ds_report.specs.declared.fault.Fault.{Fault}
-use Rattle.ds_report.specs.declared.fault.Fault.TheVariants.{Usage, Read, TooLong, Parse, Shape, Check, OtherForm}
+use Rattle.ds_report.specs.declared.fault.Fault.TheVariants.{Usage, Read, TooLong, Parse, Shape, Check}
 use Rattle.ds_main.specs.declared.no_module.NoModule.{NoModule}
 use Rattle.ds_main.specs.declared.no_module.NoModule.TheVariants as none
 use Rattle.ds_main.specs.declared.job.Job.{Job}
 use Rattle.ds_main.specs.declared.job.ArgsFault.{ArgsFault}
 use Rattle.ds_main.specs.declared.job.ArgsFault.TheVariants as args
 use Rattle.ds_main.specs.declared.job.Job.TheVariants.{Replay}
-use Rattle.ds_main.specs.Job.{IsJob, NoJob}
-use Rattle.ds_main.specs.Input.{Held, IsModuleOfInput}
-use Rattle.ds_main.specs.Refusal.{IsOtherForm}
+use Rattle.ds_main.specs.Job.{IsJob, HasJob, NoJob}
+use Rattle.ds_main.specs.Input.{IsModuleOfInput}
 use Rattle.ds_main.specs.Text.{IsTextOf}
-use Rattle.ds_main.specs.Run.{IsEmpty, IsRunOfModule, IsRunOfInput}
+use Rattle.ds_main.specs.Run.{IsEmpty, IsRunOfInput}
 use Rattle.ds_main.specs.Due.{IsDue, IsInputFault, IsOfModule}
 use Rattle.ds_main.specs.Ending.{Reading, Writing, Call, ReadRose, IsReadOut, Delivers, Unwritten, Refused, Reported}
-use Rattle.ds_main.specs.Ending.{Answered, OutOfMemory, Ends, FaultEnds, IsInputOf, RunEnds, ModuleEnds, Stops}
+use Rattle.ds_main.specs.Ending.{Answered, OutOfMemory, Ends, FaultEnds, IsInputOf, RunEnds, Stops}
 use Rattle.ds_main.specs.Ending.{ReplayEnds, AnswerEnds}
 use Rattle.ds_main.specs.Stopped.{Explains, StoppedBy}
 use Rattle.ds_main.proofs.Inputs.{held_bytes, read_out}
@@ -45,20 +42,19 @@ answered call x = inr (inr (inl x))
 
 out_of_memory : (call : Call) → Unwritten call.sink call.ended.status
     → IsEmpty call.ended.run
-    ⊎ ((lim : Bounds) × IsJob call.words (Replay lim) × (m : Module)
-    × IsRunOfInput call.source.left lim m call.ended.run) → Ends call
+    ⊎ ((seed : ℕ) × (lim : Bounds) × IsJob call.words (Replay seed lim) × (m : Module)
+    × IsRunOfInput call.source.left seed lim m call.ended.run) → Ends call
 out_of_memory call unwritten run = inr (inr (inr (record { unwritten = unwritten; run = run })))
 
 -- a fault of the input is due where there is a job
-due : (words : List (List ℕ)) (left : Option (List ℕ)) (read_rose : Type 0) (fault : Fault) (job : Job)
-    → IsJob words job → IsInputFault job left read_rose fault → IsDue words left read_rose fault
-due words left read_rose Usage job is input = absurd input.1
-due words left read_rose Read job is input = (job, is, input)
-due words left read_rose TooLong job is input = (job, is, input)
-due words left read_rose (Parse fault) job is input = (job, is, input)
-due words left read_rose (Shape fault) job is input = (job, is, input)
-due words left read_rose (Check fault names) job is input = (job, is, input)
-due words left read_rose OtherForm job is input = (job, is, input)
+due : (words : List (List ℕ)) (left : Option (List ℕ)) (read_rose : Type 0) (fault : Fault) → HasJob words
+    → IsInputFault left read_rose fault → IsDue words left read_rose fault
+due words left read_rose Usage job input = absurd input.1
+due words left read_rose Read job input = (job, input)
+due words left read_rose TooLong job input = (job, input)
+due words left read_rose (Parse fault) job input = (job, input)
+due words left read_rose (Shape fault) job input = (job, input)
+due words left read_rose (Check fault names) job input = (job, input)
 
 fault_ends : (call : Call) (fault : Fault) → IsDue call.words call.source.left (ReadRose call.source) fault
     → (IsOfModule fault → IsReadOut call.source) → FaultEnds fault call.sink call.ended → Ends call
@@ -79,10 +75,10 @@ only_usage args.Usage = refl
 pub usage_ends : (call : Call) → NoJob call.words → FaultEnds Usage call.sink call.ended → Ends call
 usage_ends call none told = fault_ends call Usage none (λ of. absurd of) told
 
-stop_ends : (call : Call) (job : Job) → IsJob call.words job → Stops job call.source call.sink call.ended → Ends call
-stop_ends call job is (inl x) =
-    fault_ends call x.0 (due call.words call.source.left (ReadRose call.source) x.0 job is x.1) x.2 x.3
-stop_ends call job is (inr x) = out_of_memory call x.0 (inl x.1)
+stop_ends : (call : Call) → HasJob call.words → Stops call.source call.sink call.ended → Ends call
+stop_ends call job (inl x) =
+    fault_ends call x.0 (due call.words call.source.left (ReadRose call.source) x.0 job x.1) x.2 x.3
+stop_ends call job (inr x) = out_of_memory call x.0 (inl x.1)
 
 -- the module that was read is that of the input
 of_input : (source : Reading) (m : Module) → IsInputOf source m → IsModuleOfInput source.left m
@@ -93,19 +89,16 @@ of_input source m input =
       spelled = input.2;
     }
 
-run_of_input : (call : Call) (lim : Bounds) (m : Module) → IsInputOf call.source m → IsInForm m
-    → IsRunOfModule lim m call.ended.run → IsRunOfInput call.source.left lim m call.ended.run
-run_of_input call lim m input form run =
-    record { of_input = of_input call.source m input; form = form; run_of = run }
-
-run_ends : (call : Call) (lim : Bounds) (m : Module) → IsJob call.words (Replay lim) → IsInputOf call.source m
-    → IsInForm m → RunEnds lim m call.sink call.ended → Ends call
-run_ends call lim m job input form (inl x) = out_of_memory call x.0 (inl x.1)
-run_ends call lim m job input form (inr x) =
-    let run : IsRunOfInput call.source.left lim m call.ended.run = run_of_input call lim m input form x.0 in
+run_ends : (call : Call) (seed : ℕ) (lim : Bounds) (m : Module) → IsJob call.words (Replay seed lim)
+    → IsInputOf call.source m → RunEnds seed lim m call.sink call.ended → Ends call
+run_ends call seed lim m job input (inl x) = out_of_memory call x.0 (inl x.1)
+run_ends call seed lim m job input (inr x) =
+    let run : IsRunOfInput call.source.left seed lim m call.ended.run =
+    record { of_input = of_input call.source m input; run_of = x.0 } in
     elim x.1 [
-      | inl unwritten ↦ out_of_memory call unwritten (inr (lim, job, m, run))
+      | inl unwritten ↦ out_of_memory call unwritten (inr (seed, lim, job, m, run))
       | inr y ↦ reported call (record {
+        seed = seed;
         lim = lim;
         job = job;
         input_module = m;
@@ -117,15 +110,15 @@ run_ends call lim m job input form (inr x) =
       })
     ]
 
-pub replay_ends : (call : Call) (lim : Bounds) → IsJob call.words (Replay lim)
-    → ReplayEnds lim call.source call.sink call.ended → Ends call
-replay_ends call lim job (inl x) = stop_ends call (Replay lim) job x
-replay_ends call lim job (inr x) = run_ends call lim x.0 job x.1 x.2 x.3
+pub replay_ends : (call : Call) (seed : ℕ) (lim : Bounds) → IsJob call.words (Replay seed lim)
+    → ReplayEnds seed lim call.source call.sink call.ended → Ends call
+replay_ends call seed lim job (inl x) = stop_ends call (Replay seed lim, job) x
+replay_ends call seed lim job (inr x) = run_ends call seed lim x.0 job x.1 x.2
 
 -- how a job ends that writes this text of each module
 pub answer_ends : (call : Call) (job : Job) (text : Module → List ℕ) → ((m : Module) → IsTextOf job m (text m))
-    → IsJob call.words job → AnswerEnds job text call.source call.sink call.ended → Ends call
-answer_ends call job text text_of is (inl x) = stop_ends call job is x
+    → IsJob call.words job → AnswerEnds text call.source call.sink call.ended → Ends call
+answer_ends call job text text_of is (inl x) = stop_ends call (job, is) x
 answer_ends call job text text_of is (inr x) =
     let input = x.1 in
     answered call (record {
@@ -141,24 +134,7 @@ answer_ends call job text text_of is (inr x) =
     })
 
 -- an input that gives no module ends the job
-pub stopped : (job : Job) (source : Reading) (sink : Writing) (ended : Ended) (why : NoModule) → Explains source why
-    → StoppedBy why sink ended → Stops job source sink ended
-stopped job source sink ended (none.Refused fault) explained by = inl (fault, explained.0 job, explained.1, by)
-stopped job source sink ended none.Memory explained by = inr by
-
--- what is known of the bytes that were read is known of those that the source held
-held_by : (source : Reading) (given : List ℕ) (P : List ℕ → Type 0) → GivesAll source.left given source.left_after
-    → P given → Held source.left P
-held_by source given P all is bytes e = subst P (held_bytes source.left source.left_after given bytes all e) is
-
--- how the job ends that has this module
-pub module_ends : (lim : Bounds) (source : Reading) (sink : Writing) (ended : Ended) (m : Module) → IsInputOf source m
-    → ModuleEnds lim m sink ended → ReplayEnds lim source sink ended
-module_ends lim source sink ended m input (inl x) =
-    inl (inl (
-      OtherForm,
-      ((λ want. want), (tt, held_by source input.0 IsOtherForm input.1 (m, input.2, x.0))),
-      (λ of. read_out source input.0 input.1),
-      x.1,
-    ))
-module_ends lim source sink ended m input (inr x) = inr (m, input, x.0, x.1)
+pub stopped : (source : Reading) (sink : Writing) (ended : Ended) (why : NoModule) → Explains source why
+    → StoppedBy why sink ended → Stops source sink ended
+stopped source sink ended (none.Refused fault) explained by = inl (fault, explained.0, explained.1, by)
+stopped source sink ended none.Memory explained by = inr by

@@ -14,7 +14,6 @@ use Rattle.ds_check.specs.declared.fault.TypeFault.{TypeFault}
 use Rattle.ds_check.specs.declared.fault.TypeFault.TheVariants as check
 use Rattle.ds_report.specs.declared.fault.Fault.{Fault}
 use Rattle.ds_report.specs.declared.fault.Fault.TheVariants as faults
-use Rattle.ds_main.specs.declared.job.Job.{Job}
 use Rattle.ds_main.specs.declared.no_module.NoModule.{NoModule}
 use Rattle.ds_main.specs.declared.no_module.NoModule.TheVariants as none
 use Rattle.ds_main.specs.Input.{longest_input, Held, Spells, function_names}
@@ -54,9 +53,9 @@ explained source given text f none.Memory all within same h t = tt
 explained source given text f (none.Refused told) all within same (inl m) t = absurd (t.1 (inl m))
 explained source given text f (none.Refused told) all within same (inr h) t =
     let Q : List ℕ → Type 0 = λ bytes. HasParseFault bytes f in
-    let input : (job : Job) → IsInputFault job source.left (ReadRose source) (faults.Parse f) =
-    λ job. (t.1, held source given Q all within (subst Q same h)) in (
-      (λ job. subst (IsInputFault job source.left (ReadRose source)) (sym t.0) (input job)),
+    let input : IsInputFault source.left (ReadRose source) (faults.Parse f) =
+    (t.1, held source given Q all within (subst Q same h)) in (
+      subst (IsInputFault source.left (ReadRose source)) (sym t.0) input,
       (λ of. read_out source given all),
     )
 
@@ -85,22 +84,21 @@ check_told m f h e = subst (HasTypeFault m) e h
 -- the fault of the module that the bytes spell is one of the input
 module_fault : (source : Reading) (given : List ℕ) (m : Module) (fault : Fault)
     → GivesAll source.left given source.left_after → Spells given m → HasModuleFault fault m
-    → (job : Job) → IsInputFault job source.left (ReadRose source) fault
-module_fault source given m faults.Usage all spells h job = absurd h
-module_fault source given m faults.Read all spells h job = absurd h
-module_fault source given m faults.TooLong all spells h job = absurd h
-module_fault source given m (faults.Parse f) all spells h job = absurd h
-module_fault source given m (faults.Shape f) all spells h job = (
+    → IsInputFault source.left (ReadRose source) fault
+module_fault source given m faults.Usage all spells h = absurd h
+module_fault source given m faults.Read all spells h = absurd h
+module_fault source given m faults.TooLong all spells h = absurd h
+module_fault source given m (faults.Parse f) all spells h = absurd h
+module_fault source given m (faults.Shape f) all spells h = (
   shape_told m f h,
   λ bytes e. subst (SpellsFaulty (faults.Shape f))
       (held_bytes source.left source.left_after given bytes all e) (m, spells, h),
 )
-module_fault source given m (faults.Check f names) all spells h job = (
+module_fault source given m (faults.Check f names) all spells h = (
   check_told m f h.1,
   λ bytes e. subst (SpellsFaulty (faults.Check f names))
       (held_bytes source.left source.left_after given bytes all e) (m, spells, h),
 )
-module_fault source given m faults.OtherForm all spells h job = absurd h
 
 -- why the module that was read is not accepted
 pub module_explained : (source : Reading) (m : Module) (why : NoModule) → IsSpelledBy source m → ExplainsModule m why

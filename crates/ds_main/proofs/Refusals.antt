@@ -1,17 +1,15 @@
 -- An input that is accepted is not refused.
 use Rattle.std.proofs.Common.{ℕ, inl, inr, List, sym, subst, arith}
 use Rattle.ds_ast.specs.declared.module.Module.{Module}
-use Rattle.ds_form.specs.Form.{IsInForm}
 use Rattle.ds_grammar.specs.declared.fault.ParseFault.{ParseFault}
 use Rattle.ds_parse.specs.Laws.{TextsSpellOneModule, TextsAreNotRefused}
 use Rattle.ds_shape.specs.Accepted.{Accepted}
 use Rattle.ds_shape.specs.Laws.{LayoutsAreNotRefused}
 use Rattle.ds_check.specs.Laws.{AcceptedAreNotRefused}
 use Rattle.ds_report.specs.declared.fault.Fault.{Fault}
-use Rattle.ds_report.specs.declared.fault.Fault.TheVariants.{Usage, Read, TooLong, Parse, Shape, Check, OtherForm}
-use Rattle.ds_main.specs.declared.job.Job.TheVariants as jobs
-use Rattle.ds_main.specs.Input.{SpellsAccepted, SpellsRun}
-use Rattle.ds_main.specs.Refusal.{IsTooLong, HasTextFault, HasModuleFault, SpellsFaulty, IsOtherForm}
+use Rattle.ds_report.specs.declared.fault.Fault.TheVariants.{Usage, Read, TooLong, Parse, Shape, Check}
+use Rattle.ds_main.specs.Input.{SpellsAccepted}
+use Rattle.ds_main.specs.Refusal.{IsTooLong, HasTextFault, HasModuleFault, SpellsFaulty}
 use Rattle.ds_main.specs.Refusal.{AcceptedInputsAreNotRefused}
 
 -- an accepted module has no fault
@@ -23,7 +21,6 @@ no_fault layouts checks m TooLong accepted h = absurd h
 no_fault layouts checks m (Parse f) accepted h = absurd h
 no_fault layouts checks m (Shape f) accepted h = layouts m f accepted.well_formed.layout h
 no_fault layouts checks m (Check f names) accepted h = checks m f accepted h.1
-no_fault layouts checks m OtherForm accepted h = absurd h
 
 module _ (one : TextsSpellOneModule) (texts : TextsAreNotRefused) (layouts : LayoutsAreNotRefused)
     (checks : AcceptedAreNotRefused) where
@@ -31,11 +28,6 @@ module _ (one : TextsSpellOneModule) (texts : TextsAreNotRefused) (layouts : Lay
   no_other : (bytes : List ℕ) (m : Module) (fault : Fault) → SpellsAccepted bytes m → SpellsFaulty fault bytes → ⊥
   no_other bytes m fault (spells, accepted) (n, other, h) =
       no_fault layouts checks m fault accepted (subst (HasModuleFault fault) (sym (one bytes m n spells.1 other.1)) h)
-
-  -- a module of the stage's form and one of another form are not the module of one text
-  other_form : (bytes : List ℕ) (m : Module) → SpellsRun bytes m → IsOtherForm bytes → ⊥
-  other_form bytes m (spells, is) (n, other, none) =
-      none (subst IsInForm (one bytes m n spells.0.1 other.0.1) is)
 
   too_long : (bytes : List ℕ) (m : Module) → SpellsAccepted bytes m → IsTooLong bytes → ⊥
   too_long bytes m (spells, accepted) long = absurd (omega (arith, spells.0, long))
@@ -45,20 +37,6 @@ module _ (one : TextsSpellOneModule) (texts : TextsAreNotRefused) (layouts : Lay
   no_text_fault bytes m fault (spells, accepted) h = texts bytes m fault spells.1 h.1
 
   pub accepted_inputs_are_not_refused : AcceptedInputsAreNotRefused
-  accepted_inputs_are_not_refused (jobs.Replay lim) bytes (m, (spells, is)) (inl long) = too_long bytes m spells long
-  accepted_inputs_are_not_refused (jobs.Replay lim) bytes (m, (spells, is)) (inr (inl x)) =
-      no_text_fault bytes m x.0 spells x.1
-  accepted_inputs_are_not_refused (jobs.Replay lim) bytes (m, (spells, is)) (inr (inr (inl x))) =
-      no_other bytes m x.0 spells x.1
-  accepted_inputs_are_not_refused (jobs.Replay lim) bytes (m, (spells, is)) (inr (inr (inr x))) =
-      other_form bytes m (spells, is) x.1
-  accepted_inputs_are_not_refused jobs.Check bytes (m, spells) (inl long) = too_long bytes m spells long
-  accepted_inputs_are_not_refused jobs.Check bytes (m, spells) (inr (inl x)) = no_text_fault bytes m x.0 spells x.1
-  accepted_inputs_are_not_refused jobs.Check bytes (m, spells) (inr (inr (inl x))) = no_other bytes m x.0 spells x.1
-  accepted_inputs_are_not_refused jobs.Check bytes (m, spells) (inr (inr (inr x))) = absurd x.0
-  accepted_inputs_are_not_refused jobs.Instrument bytes (m, spells) (inl long) = too_long bytes m spells long
-  accepted_inputs_are_not_refused jobs.Instrument bytes (m, spells) (inr (inl x)) =
-      no_text_fault bytes m x.0 spells x.1
-  accepted_inputs_are_not_refused jobs.Instrument bytes (m, spells) (inr (inr (inl x))) =
-      no_other bytes m x.0 spells x.1
-  accepted_inputs_are_not_refused jobs.Instrument bytes (m, spells) (inr (inr (inr x))) = absurd x.0
+  accepted_inputs_are_not_refused bytes (m, spells) (inl long) = too_long bytes m spells long
+  accepted_inputs_are_not_refused bytes (m, spells) (inr (inl x)) = no_text_fault bytes m x.0 spells x.1
+  accepted_inputs_are_not_refused bytes (m, spells) (inr (inr x)) = no_other bytes m x.0 spells x.1

@@ -1,6 +1,5 @@
 -- What was recorded is a run of the module.
-use Rattle.std.proofs.Common.{◌≡◌, ℕ, ◌≤◌, List, [], length, drop, replicate, Option, Some, None, ap, sym, subst}
-use Rattle.std.proofs.Common.{refl, arith}
+use Rattle.std.proofs.Common.{◌≡◌, ℕ, ◌≤◌, List, length, Option, Some, None, ap, sym, subst, refl, arith}
 use Rattle.std.specs.Prelude.{IsSomeAnd}
 use Rattle.ds_ast.specs.declared.module.Module.{Module}
 use Rattle.ds_step.specs.declared.Step.{Step}
@@ -9,7 +8,6 @@ use Rattle.ds_shape.specs.Laws.{WordsAreCounted}
 use Rattle.ds_shape.specs.Image.{image_of}
 use Rattle.ds_map.specs.Bounds.{Bounds, IsInRange}
 use Rattle.ds_plain.specs.declared.Cue.{Cue}
-use Rattle.ds_plain.specs.declared.Stop.TheVariants.{Idle}
 use Rattle.ds_plain.specs.Asking.{HasRows}
 use Rattle.ds_plain.specs.Behaviour.{Program}
 use Rattle.ds_plain.specs.Explained.{HasEnded, stop_in, trace_of, IsRecord, HasLegalOrder}
@@ -17,8 +15,7 @@ use Rattle.ds_plain.specs.Turns.{IsScheduledOrder}
 use Rattle.ds_plain_laws.specs.Laws.{LegalRunsArePlain}
 use Rattle.ds_fuel_laws.specs.Laws.{FuelIsExact}
 use Rattle.ds_meaning.specs.Values.{global_address}
-use Rattle.ds_form.specs.Form.{IsInForm}
-use Rattle.ds_form.specs.Laws.{FormsAskRows}
+use Rattle.ds_row_laws.specs.Laws.{AcceptedModulesAskRows}
 use Rattle.ds_safe_laws.specs.Laws.{HasMeaning, AcceptedMeans}
 use Rattle.ds_code.specs.declared.functions.CodeParts.{CodeParts}
 use Rattle.ds_code.specs.CodeProgram.{program_of}
@@ -28,15 +25,16 @@ use Rattle.ds_main.specs.Run.{IsRunOfModule, read_program}
 use Rattle.ds_main.specs.Ending.{Writing, Delivers}
 
 -- a recorded order of a schedule is some legal order
-has_legal_order : (program : Program) (lim : Bounds) (traces : List (List Step)) (order : Option (List ℕ))
-    → IsSomeAnd order (IsScheduledOrder program lim [] 0 traces) → HasLegalOrder program lim traces
-has_legal_order program lim traces None legal = absurd legal
-has_legal_order program lim traces (Some order) legal = ∣ (legal.0, legal.2, legal.3) ∣₁
+has_legal_order : (program : Program) (lim : Bounds) (cues : List Cue) (seed : ℕ) (traces : List (List Step))
+    (order : Option (List ℕ)) → IsSomeAnd order (IsScheduledOrder program lim cues seed traces)
+    → HasLegalOrder program lim traces
+has_legal_order program lim cues seed traces None legal = absurd legal
+has_legal_order program lim cues seed traces (Some order) legal = ∣ (legal.0, legal.2, legal.3) ∣₁
 
--- all that the code of a module of the form asks has a row
-pub code_asks_rows : FormsAskRows → (m : Module) (lim : Bounds) (code : CodeParts) → IsInForm m
+-- all that the code of an accepted module asks has a row
+pub code_asks_rows : AcceptedModulesAskRows → (m : Module) (lim : Bounds) (code : CodeParts) → Accepted m
     → program_of lim code ≡ read_program lim m → HasRows lim (program_of lim code)
-code_asks_rows law m lim code form same = subst (HasRows lim) (sym same) (law m lim form)
+code_asks_rows law m lim code accepted same = subst (HasRows lim) (sym same) (law m lim accepted)
 
 -- the image of an accepted module has at most 4,096 words
 pub few_words : WordsAreCounted → (m : Module) (code : CodeParts) → Accepted m → IsLowered m code
@@ -52,26 +50,22 @@ has_meaning : AcceptedMeans → (m : Module) → Accepted m → HasMeaning m
 has_meaning safe m accepted = λ noting lim thread function argument f answers at defined.
     safe m noting lim accepted thread function argument f answers at defined
 
-module _ (law : LegalRunsArePlain) (fuel : FuelIsExact) (m : Module) (means : HasMeaning m) (lim : Bounds)
-    (range : IsInRange lim) (run : RunRecord)
+module _ (law : LegalRunsArePlain) (fuel : FuelIsExact) (m : Module) (means : HasMeaning m) (cues : List Cue)
+    (seed : ℕ) (lim : Bounds) (range : IsInRange lim) (run : RunRecord)
     (recorded : IsRecord (read_program lim m) lim run.stops run.traces)
-    (order : IsSomeAnd run.order (IsScheduledOrder (read_program lim m) lim [] 0 run.traces))
-    (alone : IsSomeAnd run.order (λ order. order ≡ replicate (length order) 0))
-    (idle : drop 1 run.stops ≡ replicate 15 Idle)
+    (order : IsSomeAnd run.order (IsScheduledOrder (read_program lim m) lim cues seed run.traces))
     (sixteen : length run.stops ≡ 16) (ended : HasEnded (stop_in run.stops 0)) where
-  run_of_read : IsRunOfModule lim m run
+  run_of_read : IsRunOfModule cues seed lim m run
   run_of_read = record {
     sixteen_stops = sixteen;
     main_ended = ended;
     means = means;
     explained = record {
       recorded = recorded;
-      some_order = has_legal_order (read_program lim m) lim run.traces run.order order;
+      some_order = has_legal_order (read_program lim m) lim cues seed run.traces run.order order;
       every_order = law (read_program lim m) lim run.stops run.traces range recorded;
     };
     order = order;
-    main_alone = alone;
-    others_idle = idle;
     fuel = λ t lt ended. fuel (read_program lim m) lim t (trace_of run.traces t) (stop_in run.stops t)
         (recorded.follows t lt) (sym (recorded.ends t lt)) ended;
   }
@@ -79,21 +73,15 @@ module _ (law : LegalRunsArePlain) (fuel : FuelIsExact) (m : Module) (means : Ha
 -- what was recorded of the code of a module is a run of the module
 pub run_of_module : LegalRunsArePlain → FuelIsExact → AcceptedMeans → (m : Module) (lim : Bounds) (code : CodeParts)
     (cues : List Cue) (seed : ℕ) (run : RunRecord)
-    → Accepted m → program_of lim code ≡ read_program lim m → IsInRange lim → cues ≡ [] → seed ≡ 0
+    → Accepted m → program_of lim code ≡ read_program lim m → IsInRange lim
     → IsRecord (program_of lim code) lim run.stops run.traces
     → IsSomeAnd run.order (IsScheduledOrder (program_of lim code) lim cues seed run.traces)
-    → IsSomeAnd run.order (λ order. order ≡ replicate (length order) 0)
-    → drop 1 run.stops ≡ replicate 15 Idle → length run.stops ≡ 16 → HasEnded (stop_in run.stops 0)
-    → IsRunOfModule lim m run
-run_of_module law fuel safe m lim code cues seed run accepted same range none first recorded order alone idle sixteen ended =
-    let seeded = subst (λ (n : ℕ). IsSomeAnd run.order (IsScheduledOrder (program_of lim code) lim cues n run.traces))
-    first order in
-    let uncued = subst (λ (cs : List Cue).
-    IsSomeAnd run.order (IsScheduledOrder (program_of lim code) lim cs 0 run.traces)) none seeded in
-    run_of_read law fuel m (has_meaning safe m accepted) lim range run
+    → length run.stops ≡ 16 → HasEnded (stop_in run.stops 0) → IsRunOfModule cues seed lim m run
+run_of_module law fuel safe m lim code cues seed run accepted same range recorded order sixteen ended =
+    run_of_read law fuel m (has_meaning safe m accepted) cues seed lim range run
     (subst (λ (p : Program). IsRecord p lim run.stops run.traces) same recorded)
-    (subst (λ (p : Program). IsSomeAnd run.order (IsScheduledOrder p lim [] 0 run.traces)) same uncued)
-    alone idle sixteen ended
+    (subst (λ (p : Program). IsSomeAnd run.order (IsScheduledOrder p lim cues seed run.traces)) same order)
+    sixteen ended
 
 -- the same status under another name
 pub delivers_as : (text : List ℕ) (done same : ℕ) (sink : Writing) (status : ℕ) → done ≡ same

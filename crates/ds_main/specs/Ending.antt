@@ -3,13 +3,11 @@ use Rattle.std.specs.Prelude.{◌≡◌, ℕ, ◌⊎◌, List, [], Option, false
 use Rattle.std.specs.Option.{option_map}
 use Rattle.ds_ast.specs.declared.module.Module.{Module}
 use Rattle.ds_map.specs.Bounds.{Bounds}
-use Rattle.ds_form.specs.Form.{IsInForm}
 use Rattle.ds_io.specs.Counts.{Rose}
 use Rattle.ds_io.specs.Source.{GivesAll}
 use Rattle.ds_io.specs.Sink.{Takes, TakesFront}
 use Rattle.ds_core.specs.declared.record.Ended.{Ended}
 use Rattle.ds_report.specs.declared.fault.Fault.{Fault}
-use Rattle.ds_report.specs.declared.fault.Fault.TheVariants.{OtherForm}
 use Rattle.ds_report.specs.Fault.{fault_text}
 use Rattle.ds_report.specs.Report.{IsReport}
 use Rattle.ds_main.specs.declared.job.Job.{Job}
@@ -90,10 +88,11 @@ pub record Refused (call : Call) : Type 0 where
 
 -- the accepted module that the input spells was run, and the report was delivered
 pub record Reported (call : Call) : Type 0 where
+  pub seed : ℕ
   pub lim : Bounds
-  pub job : IsJob call.words (Replay lim)
+  pub job : IsJob call.words (Replay seed lim)
   pub input_module : Module
-  pub run : IsRunOfInput call.source.left lim input_module call.ended.run
+  pub run : IsRunOfInput call.source.left seed lim input_module call.ended.run
   pub read : IsReadOut call.source
   pub text : List ℕ
   pub report : IsReport (function_names input_module) call.ended.run.stops call.ended.run.traces false text
@@ -115,8 +114,8 @@ pub record Answered (call : Call) : Type 0 where
 pub record OutOfMemory (call : Call) : Type 0 where
   pub unwritten : Unwritten call.sink call.ended.status
   pub run : IsEmpty call.ended.run
-      ⊎ ((lim : Bounds) × IsJob call.words (Replay lim) × (m : Module)
-      × IsRunOfInput call.source.left lim m call.ended.run)
+      ⊎ ((seed : ℕ) × (lim : Bounds) × IsJob call.words (Replay seed lim) × (m : Module)
+      × IsRunOfInput call.source.left seed lim m call.ended.run)
 
 -- every call ends so
 abbrev pub Ends : Call → Type 0
@@ -142,33 +141,27 @@ abbrev pub IsInputOf : Reading → Module → Type 0
 IsInputOf source m = (bytes : List ℕ) × GivesAll source.left bytes source.left_after × SpellsAccepted bytes m
 
 -- how a run of the module ends: memory ran out before it, behind it, or its report was delivered
-abbrev pub RunEnds : Bounds → Module → Writing → Ended → Type 0
-RunEnds lim m sink ended =
+abbrev pub RunEnds : (seed : ℕ) → Bounds → Module → Writing → Ended → Type 0
+RunEnds seed lim m sink ended =
     MemoryEnds sink ended
-    ⊎ (IsRunOfModule lim m ended.run × (Unwritten sink ended.status
+    ⊎ (IsRunOfModule [] seed lim m ended.run × (Unwritten sink ended.status
     ⊎ ((text : List ℕ) × IsReport (function_names m) ended.run.stops ended.run.traces false text
     × Delivers text (run_status ended.run.stops) sink ended.status)))
 
--- how the job `replay` ends once it has its module: the module has another form, or it was run
-abbrev pub ModuleEnds : Bounds → Module → Writing → Ended → Type 0
-ModuleEnds lim m sink ended =
-    ((IsInForm m → ⊥) × FaultEnds OtherForm sink ended) ⊎ (IsInForm m × RunEnds lim m sink ended)
-
 -- the call ends by a fault of the input, or memory ran out before anything was run
-abbrev pub Stops : Job → Reading → Writing → Ended → Type 0
-Stops job source sink ended =
-    ((fault : Fault) × IsInputFault job source.left (ReadRose source) fault × (IsOfModule fault → IsReadOut source)
+abbrev pub Stops : Reading → Writing → Ended → Type 0
+Stops source sink ended =
+    ((fault : Fault) × IsInputFault source.left (ReadRose source) fault × (IsOfModule fault → IsReadOut source)
     × FaultEnds fault sink ended)
     ⊎ MemoryEnds sink ended
 
 -- how the job `replay` ends
-abbrev pub ReplayEnds : Bounds → Reading → Writing → Ended → Type 0
-ReplayEnds lim source sink ended =
-    Stops (Replay lim) source sink ended
-    ⊎ ((m : Module) × IsInputOf source m × IsInForm m × RunEnds lim m sink ended)
+abbrev pub ReplayEnds : (seed : ℕ) → Bounds → Reading → Writing → Ended → Type 0
+ReplayEnds seed lim source sink ended =
+    Stops source sink ended ⊎ ((m : Module) × IsInputOf source m × RunEnds seed lim m sink ended)
 
 -- how a job that runs nothing ends, which writes this text of each module
-abbrev pub AnswerEnds : Job → (Module → List ℕ) → Reading → Writing → Ended → Type 0
-AnswerEnds job text source sink ended =
-    Stops job source sink ended
+abbrev pub AnswerEnds : (Module → List ℕ) → Reading → Writing → Ended → Type 0
+AnswerEnds text source sink ended =
+    Stops source sink ended
     ⊎ ((m : Module) × IsInputOf source m × IsEmpty ended.run × Delivers (text m) 0 sink ended.status)

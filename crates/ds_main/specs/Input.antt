@@ -5,9 +5,6 @@ use Rattle.ds_ast.specs.declared.module.Module.{Module}
 use Rattle.ds_ast.specs.declared.module.Function.{Function}
 use Rattle.ds_grammar.specs.Functions.{Text}
 use Rattle.ds_shape.specs.Accepted.{Accepted}
-use Rattle.ds_form.specs.Form.{IsInForm}
-use Rattle.ds_main.specs.declared.job.Job.{Job}
-use Rattle.ds_main.specs.declared.job.Job.TheVariants as jobs
 
 -- the most bytes that an input may have
 abbrev pub longest_input : ℕ
@@ -35,12 +32,6 @@ pub record IsModuleOfInput (left : Option (List ℕ)) (m : Module) : Type 0 wher
 abbrev pub function_names : Module → List Name
 function_names m = map (λ (f : Function). f.name) m.functions
 
--- the bytes spell this accepted module, and it has the form that this stage runs
-abbrev pub SpellsRun : List ℕ → Module → Type 0
-SpellsRun bytes m = SpellsAccepted bytes m × IsInForm m
-
--- the input is accepted for the job
-abbrev pub IsAccepted : Job → List ℕ → Type 0
-IsAccepted (jobs.Replay lim) bytes = (m : Module) × SpellsRun bytes m
-IsAccepted jobs.Check bytes = (m : Module) × SpellsAccepted bytes m
-IsAccepted jobs.Instrument bytes = (m : Module) × SpellsAccepted bytes m
+-- the input is accepted
+abbrev pub IsAccepted : List ℕ → Type 0
+IsAccepted bytes = (m : Module) × SpellsAccepted bytes m

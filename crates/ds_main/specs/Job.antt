@@ -8,6 +8,7 @@ use Rattle.ds_lex.specs.Bytes.{is_digit}
 use Rattle.ds_lex.specs.Number.{number_of}
 use Rattle.ds_map.specs.Bounds.{Bounds, default_limits}
 use Rattle.ds_main.specs.declared.job.Options as code
+use Rattle.ds_main.specs.declared.job.Setting as given
 use Rattle.ds_main.specs.declared.job.Job.{Job}
 use Rattle.ds_main.specs.declared.job.Job.TheVariants.{Replay, Check, Instrument}
 
@@ -21,11 +22,12 @@ number_in word = if list_all is_digit word && nat_le (length word) 20 then numbe
 
 -- the options of a run that were given
 pub record Options : Type 0 where
+  pub seed : Option ℕ
   pub pages : Option ℕ
   pub fuel : Option ℕ
 
 abbrev pub no_options : Options
-no_options = record { pages = None; fuel = None }
+no_options = record { seed = None; pages = None; fuel = None }
 
 -- the number of an option, where it was not given before
 abbrev pub once : (before number : Option ℕ) → Option ℕ
@@ -36,10 +38,12 @@ once (Some n) number = None
 -- number
 abbrev pub with_option : Options → (name number : List ℕ) → Option Options
 with_option options name number =
-    if bytes_eq name (codes "--pages")
+    if bytes_eq name (codes "--seed")
+    then option_map (λ n. record options { seed = Some n }) (once options.seed (number_in number)) else
+    (if bytes_eq name (codes "--pages")
     then option_map (λ n. record options { pages = Some n }) (once options.pages (number_in number)) else
     (if bytes_eq name (codes "--fuel")
-    then option_map (λ n. record options { fuel = Some n }) (once options.fuel (number_in number)) else None)
+    then option_map (λ n. record options { fuel = Some n }) (once options.fuel (number_in number)) else None))
 
 abbrev pub if_options : (Options → Option Options) → Option Options → Option Options
 if_options go None = None
@@ -60,19 +64,28 @@ limits_of options =
     if (nat_le 1 pages && nat_le pages 4096) && (nat_le 1 fuel && nat_le fuel 2000000)
     then Some (record default_limits { pages = pages; fuel = fuel }) else None
 
-abbrev pub if_limits : Option Options → Option Bounds
-if_limits None = None
-if_limits (Some options) = limits_of options
+-- what a run is asked for: the seed of its schedule, which is 0 where none is given, and its limits
+pub record Setting : Type 0 where
+  pub seed : ℕ
+  pub limits : Bounds
 
--- the limits of a run whose words are `replay` and then options
-abbrev pub limits_in : List (List ℕ) → Option Bounds
-limits_in [] = None
-limits_in (command ∷ words) =
-    if bytes_eq command (codes "replay") then if_limits (options_from no_options words) else None
+abbrev pub setting_of : Options → Option Setting
+setting_of options =
+    option_map (λ lim. record { seed = unwrap_or options.seed 0; limits = lim }) (limits_of options)
+
+abbrev pub if_setting : Option Options → Option Setting
+if_setting None = None
+if_setting (Some options) = setting_of options
+
+-- what a run is asked for whose words are `replay` and then options
+abbrev pub setting_in : List (List ℕ) → Option Setting
+setting_in [] = None
+setting_in (command ∷ words) =
+    if bytes_eq command (codes "replay") then if_setting (options_from no_options words) else None
 
 -- these are the words of the job
 abbrev pub IsJob : List (List ℕ) → Job → Type 0
-IsJob words (Replay lim) = limits_in words ≡ Some lim
+IsJob words (Replay seed lim) = setting_in words ≡ Some (record { seed = seed; limits = lim })
 IsJob words Check = words ≡ codes "check" ∷ []
 IsJob words Instrument = words ≡ codes "instrument" ∷ []
 
@@ -82,14 +95,12 @@ HasJob words = (job : Job) × IsJob words job
 abbrev pub NoJob : List (List ℕ) → Type 0
 NoJob words = (job : Job) → IsJob words job → ⊥
 
--- the job is the one that runs a module
-abbrev pub IsReplay : Job → Type 0
-IsReplay (Replay lim) = Unit {0}
-IsReplay Check = ⊥
-IsReplay Instrument = ⊥
-
 -- HELPERS: no clause of a public call speaks of them
 
 -- the options as code has them
 abbrev pub options_with : code.Options → Options
-options_with options = record { pages = options.pages; fuel = options.fuel }
+options_with options = record { seed = options.seed; pages = options.pages; fuel = options.fuel }
+
+-- what a run is asked for as code has it
+abbrev pub setting_with : given.Setting → Setting
+setting_with setting = record { seed = setting.seed; limits = setting.limits }

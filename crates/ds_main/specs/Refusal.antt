@@ -1,17 +1,14 @@
 -- Which inputs are refused, and for what.
 use Rattle.std.specs.Prelude.{◌≡◌, ℕ, ◌<◌, ◌≤◌, ◌⊎◌, List, length}
 use Rattle.ds_ast.specs.declared.module.Module.{Module}
-use Rattle.ds_form.specs.Form.{IsInForm}
 use Rattle.ds_grammar.specs.declared.fault.ParseFault.{ParseFault}
 use Rattle.ds_parse.specs.Faults.{HasParseFault}
 use Rattle.ds_shape.specs.Accepted.{HasLayout}
 use Rattle.ds_shape.specs.Fault.{HasShapeFault}
 use Rattle.ds_check.specs.Fault.{HasTypeFault}
 use Rattle.ds_report.specs.declared.fault.Fault.{Fault}
-use Rattle.ds_report.specs.declared.fault.Fault.TheVariants.{Usage, Read, TooLong, Parse, Shape, Check, OtherForm}
-use Rattle.ds_main.specs.declared.job.Job.{Job}
-use Rattle.ds_main.specs.Job.{IsReplay}
-use Rattle.ds_main.specs.Input.{longest_input, Spells, SpellsAccepted, function_names, IsAccepted}
+use Rattle.ds_report.specs.declared.fault.Fault.TheVariants.{Usage, Read, TooLong, Parse, Shape, Check}
+use Rattle.ds_main.specs.Input.{longest_input, Spells, function_names, IsAccepted}
 
 abbrev pub IsTooLong : List ℕ → Type 0
 IsTooLong bytes = longest_input < length bytes
@@ -29,23 +26,17 @@ HasModuleFault TooLong m = ⊥
 HasModuleFault (Parse fault) m = ⊥
 HasModuleFault (Shape fault) m = HasShapeFault m fault
 HasModuleFault (Check fault names) m = HasLayout m × HasTypeFault m fault × (names ≡ function_names m)
-HasModuleFault OtherForm m = ⊥
 
 -- the input spells a module that is not accepted, for this fault
 abbrev pub SpellsFaulty : Fault → List ℕ → Type 0
 SpellsFaulty fault bytes = (m : Module) × Spells bytes m × HasModuleFault fault m
 
--- the input spells an accepted module that is not of the form that this stage runs
-abbrev pub IsOtherForm : List ℕ → Type 0
-IsOtherForm bytes = (m : Module) × SpellsAccepted bytes m × (IsInForm m → ⊥)
-
--- the input is refused for the job
-abbrev pub IsRefused : Job → List ℕ → Type 0
-IsRefused job bytes =
+-- the input is refused
+abbrev pub IsRefused : List ℕ → Type 0
+IsRefused bytes =
     IsTooLong bytes ⊎ (((fault : ParseFault) × HasTextFault fault bytes)
-    ⊎ (((fault : Fault) × SpellsFaulty fault bytes)
-    ⊎ (IsReplay job × IsOtherForm bytes)))
+    ⊎ ((fault : Fault) × SpellsFaulty fault bytes))
 
--- an input that is accepted for a job is not refused for it
+-- an input that is accepted is not refused
 abbrev pub AcceptedInputsAreNotRefused : Type 0
-AcceptedInputsAreNotRefused = (job : Job) (bytes : List ℕ) → IsAccepted job bytes → IsRefused job bytes → ⊥
+AcceptedInputsAreNotRefused = (bytes : List ℕ) → IsAccepted bytes → IsRefused bytes → ⊥

@@ -1,14 +1,13 @@
 -- What the record of a run is a record of.
-use Rattle.std.specs.Prelude.{◌≡◌, ℕ, ◌<◌, false, List, [], length, drop, replicate, Option, None, IsSomeAnd}
+use Rattle.std.specs.Prelude.{◌≡◌, ℕ, ◌<◌, false, List, [], length, Option, None, IsSomeAnd}
 use Rattle.ds_ast.specs.declared.module.Module.{Module}
 use Rattle.ds_map.specs.Bounds.{Bounds}
-use Rattle.ds_plain.specs.declared.Stop.TheVariants.{Idle}
+use Rattle.ds_plain.specs.declared.Cue.{Cue}
 use Rattle.ds_plain.specs.Behaviour.{Program}
 use Rattle.ds_plain.specs.Explained.{HasEnded, stop_in, trace_of, IsRunOf}
 use Rattle.ds_plain.specs.Turns.{IsScheduledOrder}
 use Rattle.ds_fuel_laws.specs.Fuel.{EndsByFuel}
 use Rattle.ds_meaning.specs.Program.{program_of}
-use Rattle.ds_form.specs.Form.{IsInForm}
 use Rattle.ds_safe_laws.specs.Laws.{HasMeaning}
 use Rattle.ds_core.specs.declared.record.RunRecord.{RunRecord}
 use Rattle.ds_main.specs.Input.{IsModuleOfInput}
@@ -25,24 +24,21 @@ read_program lim m = program_of false lim m
 
 -- The run is one of the module within these limits: main has ended, each trace follows the step table for what the
 -- module means, at least one order of the recorded steps is legal, and every legal order of them is, without log steps,
--- a run of the plain machine on that module. The recorded order is a legal one, and that of the schedule with no cues
--- and the seed 0; every step in it is main's, and no other thread was started.
-pub record IsRunOfModule (lim : Bounds) (m : Module) (run : RunRecord) : Type 0 where
+-- a run of the plain machine on that module. The recorded order is a legal one, and that of the schedule with these
+-- cues and this seed.
+pub record IsRunOfModule (cues : List Cue) (seed : ℕ) (lim : Bounds) (m : Module) (run : RunRecord) : Type 0 where
   pub sixteen_stops : length run.stops ≡ 16
   pub main_ended : HasEnded (stop_in run.stops 0)
   -- no thread of the module comes to an instruction without meaning
   pub means : HasMeaning m
   pub explained : IsRunOf (read_program lim m) lim run.stops run.traces
-  pub order : IsSomeAnd run.order (IsScheduledOrder (read_program lim m) lim [] 0 run.traces)
-  pub main_alone : IsSomeAnd run.order (λ order. order ≡ replicate (length order) 0)
-  pub others_idle : drop 1 run.stops ≡ replicate 15 Idle
+  pub order : IsSomeAnd run.order (IsScheduledOrder (read_program lim m) lim cues seed run.traces)
   -- a thread that has ended did so for want of fuel exactly where it could not pay for what came next
   pub fuel : (t : ℕ) → t < 16 → HasEnded (stop_in run.stops t)
       → EndsByFuel (read_program lim m) lim t (trace_of run.traces t) (stop_in run.stops t)
 
--- The run is one of this module within these limits. The module is the accepted one of the bytes that the source held,
--- where it tells them, and has the form that this stage runs.
-pub record IsRunOfInput (left : Option (List ℕ)) (lim : Bounds) (m : Module) (run : RunRecord) : Type 0 where
+-- The run is one of this module by no cues and this seed within these limits. The module is the accepted one of the bytes that the
+-- source held, where it tells them.
+pub record IsRunOfInput (left : Option (List ℕ)) (seed : ℕ) (lim : Bounds) (m : Module) (run : RunRecord) : Type 0 where
   pub of_input : IsModuleOfInput left m
-  pub form : IsInForm m
-  pub run_of : IsRunOfModule lim m run
+  pub run_of : IsRunOfModule [] seed lim m run

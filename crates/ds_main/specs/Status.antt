@@ -5,7 +5,7 @@ use Rattle.ds_plain.specs.declared.Stop.{Stop}
 use Rattle.ds_plain.specs.declared.Stop.TheVariants.{Idle, Running, Returned, Trap, Full, Fuel}
 use Rattle.ds_plain.specs.Explained.{is_fuel, stop_in}
 use Rattle.ds_report.specs.declared.fault.Fault.{Fault}
-use Rattle.ds_report.specs.declared.fault.Fault.TheVariants.{Usage, Read, TooLong, Parse, Shape, Check, OtherForm}
+use Rattle.ds_report.specs.declared.fault.Fault.TheVariants.{Usage, Read, TooLong, Parse, Shape, Check}
 use Rattle.ds_report.specs.Stop.{is_trap}
 
 -- the thread met a full table
@@ -38,7 +38,6 @@ status_of TooLong = 1
 status_of (Parse fault) = 1
 status_of (Shape fault) = 1
 status_of (Check fault names) = 1
-status_of OtherForm = 1
 
 -- the statuses of the faults
 abbrev pub IsFaultStatus : ℕ → Type 0

@@ -5,7 +5,6 @@ use Rattle.ds_core.specs.declared.record.Ended.{Ended}
 use Rattle.ds_report.specs.declared.fault.Fault.{Fault}
 use Rattle.ds_main.specs.declared.no_module.NoModule.{NoModule}
 use Rattle.ds_main.specs.declared.no_module.NoModule.TheVariants.{Refused, Memory}
-use Rattle.ds_main.specs.declared.job.Job.{Job}
 use Rattle.ds_main.specs.Refusal.{HasModuleFault}
 use Rattle.ds_main.specs.Due.{IsWantOfMemory, IsInputFault, IsOfModule}
 use Rattle.ds_main.specs.Ending.{Reading, Writing, ReadRose, IsReadOut, MemoryEnds, FaultEnds}
@@ -20,11 +19,11 @@ abbrev pub ExplainsModule : Module → NoModule → Type 0
 ExplainsModule m (Refused fault) = HasModuleFault fault m
 ExplainsModule m Memory = Unit {0}
 
--- the input has the fault, whatever the job is, and was read to its end before one of the module was looked for; want
+-- the input has the fault, and was read to its end before one of the module was looked for; want
 -- of memory needs no cause
 abbrev pub Explains : Reading → NoModule → Type 0
 Explains source (Refused fault) =
-    ((job : Job) → IsInputFault job source.left (ReadRose source) fault) × (IsOfModule fault → IsReadOut source)
+    IsInputFault source.left (ReadRose source) fault × (IsOfModule fault → IsReadOut source)
 Explains source Memory = Unit {0}
 
 -- the line of the fault was delivered, or memory ran out

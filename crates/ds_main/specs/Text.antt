@@ -26,6 +26,6 @@ accepted_text m =
 
 -- the text that the job writes of the module, where it runs none
 abbrev pub IsTextOf : Job → Module → List ℕ → Type 0
-IsTextOf (Replay lim) m text = ⊥
+IsTextOf (Replay seed lim) m text = ⊥
 IsTextOf Check m text = text ≡ accepted_text m
 IsTextOf Instrument m text = text ≡ canon m

@@ -1,7 +1,6 @@
 //! The job `check`: tells that the module of the input is accepted, and how much it has.
 
 ghost use Rattle.std.specs.Prelude.{◌≡◌};
-ghost use Rattle.ds_main.specs.declared.job.Job.TheVariants as jobs;
 ghost use Rattle.ds_main.specs.Text.{accepted_text};
 ghost use Rattle.ds_main.specs.Ending.{reading, writing, AnswerEnds};
 
@@ -15,7 +14,7 @@ use std::alloc::Global;
 
 /// Reads a module and writes that it is accepted.
 pub fn check<S: Source, K: Sink>(alloc: Global, source: &mut S, sink: &mut K) -> Ended
-    ensures { AnswerEnds jobs.Check accepted_text (reading S.left S.faults source.old source.new)
+    ensures { AnswerEnds accepted_text (reading S.left S.faults source.old source.new)
         (writing K.taken K.faults sink.old sink.new) result }
 {
     let module = match accepted_module(alloc, source) {

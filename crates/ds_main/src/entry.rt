@@ -51,7 +51,7 @@ fn answer<S: Source, K: Sink>(
 {
     match read_words(words) {
         Ok(job) => match job {
-            Job::Replay { limits } => replay(alloc, &limits, source, sink),
+            Job::Replay { seed, limits } => replay(alloc, seed, &limits, source, sink),
             Job::Check => check(alloc, source, sink),
             Job::Instrument => instrument(alloc, source, sink),
         },
@@ -64,13 +64,13 @@ fn answer<S: Source, K: Sink>(
 /// All three jobs read the source to its end, unless it fails or holds too much, and take its module only where that
 /// is accepted: it keeps all rules.
 /// `check` writes that to the sink, with how many functions the module defines and how many instructions they have.
-/// `instrument` writes the canonical text of the module. `replay` runs it, where it has the form that this stage runs,
-/// with a heap of so many pages as `--pages` says, and at most so many units as `--fuel` says, and writes the report of
-/// the run. No thread is started, and no pace is called.
+/// `instrument` writes the canonical text of the module. `replay` runs it with up to 16 threads, each step by the
+/// schedule that `--seed` gives, with a heap of so many pages as `--pages` says, and at most so many units for each
+/// thread as `--fuel` says, and writes the report of the run. No thread of the system is started, and no pace is called.
 ///
 /// The status is 0 where the job was done; 9, 7, 3 or 8 where it was and main ran out of fuel, a thread met a full
 /// table, a thread trapped, or another thread ran out of fuel, of which the first decides; 2 where no job has these
-/// words, 4 where the source failed, 1 where the source held too many bytes or no accepted module for the job, 5 where
+/// words, 4 where the source failed, 1 where the source held too many bytes or no accepted module, 5 where
 /// the sink failed, and 6 where memory ran out. With 1, 2 and 4 the line of the fault was written, and nothing was run.
 /// With 5 the sink has taken a front of what was due, and with 6 nothing.
 pub fn dangsan_main<R: Threads + Sync, S: Source, K: Sink, P: Pace>(
@@ -81,23 +81,22 @@ pub fn dangsan_main<R: Threads + Sync, S: Source, K: Sink, P: Pace>(
     sink: &mut K,
     pace: &P,
 ) -> Ended
-    // The main theorem. Where the record is not empty, the input spells an accepted module of the stage's form, at
-    // least one order of the recorded steps is legal, and every legal order is, without log steps, a run of the plain
-    // machine on that module. The recorded order is one of these, and that of the schedule. Every step in it is main's:
-    // the other 15 threads stand idle.
-    ensures headline { IsEmpty result.run ⊎ ((lim : Bounds) × IsJob (texts words.now) (Job.Replay lim)
-        × (m : Module) × IsRunOfInput (S.left source.old) lim m result.run) }
+    // The main theorem. Where the record is not empty, the input spells an accepted module, at least one order of the
+    // recorded steps is legal, and every legal order is, without log steps, a run of the plain machine on that module.
+    // The recorded order is one of these, and that of the schedule with no cues and the job's seed.
+    ensures headline { IsEmpty result.run ⊎ ((seed : ℕ) × (lim : Bounds) × IsJob (texts words.now) (Job.Replay seed lim)
+        × (m : Module) × IsRunOfInput (S.left source.old) seed lim m result.run) }
     // With status 0, 3, 7, 8 and 9 of `replay` there is a run, the sink took its whole report, by the names of the
     // functions of the module that the input spells, and the status is the one that the stops give. The report is that
     // of the plain machine's run, in whichever legal order of the recorded steps.
-    ensures ran { (lim : Bounds) → IsJob (texts words.now) (Job.Replay lim) → IsRunStatus result.status
-        → (m : Module) × IsRunOfInput (S.left source.old) lim m result.run }
-    ensures reported { (lim : Bounds) → IsJob (texts words.now) (Job.Replay lim) → IsRunStatus result.status
-        → (m : Module) × IsRunOfInput (S.left source.old) lim m result.run
+    ensures ran { (seed : ℕ) (lim : Bounds) → IsJob (texts words.now) (Job.Replay seed lim) → IsRunStatus result.status
+        → (m : Module) × IsRunOfInput (S.left source.old) seed lim m result.run }
+    ensures reported { (seed : ℕ) (lim : Bounds) → IsJob (texts words.now) (Job.Replay seed lim) → IsRunStatus result.status
+        → (m : Module) × IsRunOfInput (S.left source.old) seed lim m result.run
         × (text : List ℕ) × IsReport (function_names m) result.run.stops result.run.traces false text
         × IsReportOfEachOrder lim m result.run text
         × Takes (K.taken sink.old) text (K.taken sink.new) }
-    ensures run_status { (lim : Bounds) → IsJob (texts words.now) (Job.Replay lim) → IsRunStatus result.status
+    ensures run_status { (seed : ℕ) (lim : Bounds) → IsJob (texts words.now) (Job.Replay seed lim) → IsRunStatus result.status
         → result.status ≡ run_status result.run.stops }
     // With status 0 of `check` and `instrument` the input spells an accepted module, and the sink took the whole text
     // due. 3, 7, 8 and 9 are of `replay` alone.
@@ -108,7 +107,7 @@ pub fn dangsan_main<R: Threads + Sync, S: Source, K: Sink, P: Pace>(
         → (m : Module) × IsModuleOfInput (S.left source.old) m
         × Takes (K.taken sink.old) (canon m) (K.taken sink.new) }
     ensures of_replay { IsRunStatus result.status → ¬ (result.status ≡ 0)
-        → (lim : Bounds) × IsJob (texts words.now) (Job.Replay lim) }
+        → (seed : ℕ) × (lim : Bounds) × IsJob (texts words.now) (Job.Replay seed lim) }
     // With 0, 3, 7, 8 and 9 the source was read to its end.
     ensures read_out { IsRunStatus result.status → S.left source.new ≡ option_map (λ _. []) (S.left source.old) }
     // 2: exactly where no job has these words. 4: only where the source failed.
@@ -116,12 +115,10 @@ pub fn dangsan_main<R: Threads + Sync, S: Source, K: Sink, P: Pace>(
     ensures usage_is_told { NoJob (texts words.now) → (result.status ≡ 2) ⊎ IsCutShort result.status }
     ensures read_failed { result.status ≡ 4
         → HasJob (texts words.now) × Rose (S.faults source.old) (S.faults source.new) }
-    // 1: exactly where the source held more than 8,388,608 bytes, no accepted module, or, for `replay`, a module of
-    // another form.
-    ensures refused { result.status ≡ 1 → (job : Job) × IsJob (texts words.now) job
-        × Held (S.left source.old) (IsRefused job) }
-    ensures refusal_is_told { (job : Job) → IsJob (texts words.now) job
-        → Held (S.left source.old) (λ bytes. IsRefused job bytes →
+    // 1: exactly where the source held more than 8,388,608 bytes or no accepted module.
+    ensures refused { result.status ≡ 1 → HasJob (texts words.now) × Held (S.left source.old) IsRefused }
+    ensures refusal_is_told { HasJob (texts words.now)
+        → Held (S.left source.old) (λ bytes. IsRefused bytes →
         (result.status ≡ 1) ⊎ ((result.status ≡ 4) × Rose (S.faults source.old) (S.faults source.new))
         ⊎ IsCutShort result.status) }
     // 1, 2 and 4: the line of the first fault was written, nothing was run, and before a fault of the module the
@@ -139,13 +136,13 @@ pub fn dangsan_main<R: Threads + Sync, S: Source, K: Sink, P: Pace>(
         × TakesFront (K.taken sink.old) text (K.taken sink.new) }
     ensures out_of_memory { result.status ≡ 6 → K.taken sink.new ≡ K.taken sink.old }
     ensures statuses { IsStatus result.status }
-    // A module that is accepted for `replay` is run, unless the source failed or memory ran out.
-    ensures run_is_made { (lim : Bounds) → IsJob (texts words.now) (Job.Replay lim)
-        → Held (S.left source.old) (λ bytes. IsAccepted (Job.Replay lim) bytes →
+    // For `replay` an accepted module is run, unless the source failed or memory ran out.
+    ensures run_is_made { (seed : ℕ) (lim : Bounds) → IsJob (texts words.now) (Job.Replay seed lim)
+        → Held (S.left source.old) (λ bytes. IsAccepted bytes →
         ¬ Rose (S.faults source.old) (S.faults source.new) → IsEmpty result.run → result.status ≡ 6) }
     // Completeness: where moreover the sink did not fail, the job is done.
-    ensures complete { (job : Job) → IsJob (texts words.now) job
-        → Held (S.left source.old) (λ bytes. IsAccepted job bytes →
+    ensures complete { HasJob (texts words.now)
+        → Held (S.left source.old) (λ bytes. IsAccepted bytes →
         ¬ Rose (S.faults source.old) (S.faults source.new) → ¬ Rose (K.faults sink.old) (K.faults sink.new) →
         IsRunStatus result.status ⊎ (result.status ≡ 6)) }
 {

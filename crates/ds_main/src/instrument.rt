@@ -2,7 +2,6 @@
 
 ghost use Rattle.std.specs.Prelude.{◌≡◌};
 ghost use Rattle.ds_print.specs.Canonical.{canon};
-ghost use Rattle.ds_main.specs.declared.job.Job.TheVariants as jobs;
 ghost use Rattle.ds_main.specs.Ending.{reading, writing, AnswerEnds};
 
 use crate::deliver::{DONE, deliver};
@@ -15,7 +14,7 @@ use std::alloc::Global;
 
 /// Reads a module and writes its canonical text.
 pub fn instrument<S: Source, K: Sink>(alloc: Global, source: &mut S, sink: &mut K) -> Ended
-    ensures { AnswerEnds jobs.Instrument canon (reading S.left S.faults source.old source.new)
+    ensures { AnswerEnds canon (reading S.left S.faults source.old source.new)
         (writing K.taken K.faults sink.old sink.new) result }
 {
     let module = match accepted_module(alloc, source) {

@@ -4,8 +4,8 @@ ghost use Rattle.std.specs.Prelude.{◌≡◌, ◌∷◌, [], IfOk, IsErrOf, IsT
 ghost use Rattle.std.specs.List.{list_all};
 ghost use Rattle.std.specs.Option.{option_map};
 ghost use Rattle.ds_lex.specs.Bytes.{is_digit};
-ghost use Rattle.ds_main.specs.Job.{texts, number_in, once, with_option, no_options, options_from, limits_of, limits_in};
-ghost use Rattle.ds_main.specs.Job.{options_with, IsJob, NoJob};
+ghost use Rattle.ds_main.specs.Job.{texts, number_in, once, with_option, no_options, options_from, limits_of};
+ghost use Rattle.ds_main.specs.Job.{setting_of, setting_in, options_with, setting_with, IsJob, NoJob};
 
 use ds_lex::number_of;
 use ds_map::Limits;
@@ -14,8 +14,8 @@ use thiserror::Error;
 /// What the program is asked to do.
 #[derive(Clone, Copy, Debug, PartialEq, Eq)]
 pub enum Job {
-    /// Run the module that the input spells within these limits, and report the run.
-    Replay { limits: Limits },
+    /// Run the module that the input spells within these limits, by the schedule of this seed, and report the run.
+    Replay { seed: u64, limits: Limits },
     /// Tell that the module that the input spells is accepted, and how much it has.
     Check,
     /// Write the canonical text of the module that the input spells.
@@ -42,8 +42,16 @@ const MOST_FUEL: u64 = 2_000_000;
 /// The options of a run that were given.
 #[derive(Clone, Copy)]
 struct Options {
+    seed: Option<u64>,
     pages: Option<u64>,
     fuel: Option<u64>,
+}
+
+/// What a run is asked for.
+#[derive(Clone, Copy)]
+struct Setting {
+    seed: u64,
+    limits: Limits,
 }
 
 /// Whether all bytes are decimal digits.
@@ -78,6 +86,10 @@ fn once(before: Option<u64>, number: Option<u64>) -> Option<u64>
 fn with_option(options: Options, name: &[u8], number: &[u8]) -> Option<Options>
     ensures { option_map options_with result ≡ with_option (options_with options) name.now number.now }
 {
+    if name == b"--seed".as_slice() {
+        let seed = Some(once(options.seed, number_in(number))?);
+        return Some(Options { seed, ..options });
+    }
     if name == b"--pages".as_slice() {
         let pages = Some(once(options.pages, number_in(number))?);
         return Some(Options { pages, ..options });
@@ -94,6 +106,7 @@ fn options_in(words: &[String]) -> Option<Options>
     ensures { option_map options_with result ≡ options_from no_options (texts words.now) }
 {
     let mut options = Options {
+        seed: None,
         pages: None,
         fuel: None,
     };
@@ -119,13 +132,24 @@ fn limits_of(options: Options) -> Option<Limits>
     Limits::new(pages as u32, fuel as u32, limits.logs(), limits.hash())
 }
 
-/// The limits of a run whose words are `replay` and then options.
-fn limits_in(words: &[String]) -> Option<Limits>
-    ensures { result ≡ limits_in (texts words.now) }
+/// What a run with these options is asked for.
+fn setting_of(options: Options) -> Option<Setting>
+    ensures { option_map setting_with result ≡ setting_of (options_with options) }
+{
+    let limits = limits_of(options)?;
+    Some(Setting {
+        seed: options.seed.unwrap_or(0),
+        limits,
+    })
+}
+
+/// What a run is asked for whose words are `replay` and then options.
+fn setting_in(words: &[String]) -> Option<Setting>
+    ensures { option_map setting_with result ≡ setting_in (texts words.now) }
 {
     let (command, behind) = words.split_first()?;
     if command.as_bytes() == b"replay".as_slice() {
-        limits_of(options_in(behind)?)
+        setting_of(options_in(behind)?)
     } else {
         None
     }
@@ -142,8 +166,8 @@ fn is_only_word(words: &[String], word: &[u8]) -> bool
 }
 
 /// The job that has these words, which stand behind the program's name: `check` or `instrument` alone, or `replay` and
-/// then options, `--pages N` with N from 1 to 4,096 and `--fuel N` with N from 1 to 2,000,000, each at most once, in any
-/// order. N is 1 to 20 decimal digits without a sign.
+/// then options, `--seed N` with N from 0 to 2^64 - 1, `--pages N` with N from 1 to 4,096 and `--fuel N` with N from 1 to
+/// 2,000,000, each at most once, in any order. N is 1 to 20 decimal digits without a sign.
 ///
 /// # Errors
 ///
@@ -158,8 +182,11 @@ pub fn read_words(words: &[String]) -> Result<Job, ArgsFault>
     if is_only_word(words, b"instrument") {
         return Ok(Job::Instrument);
     }
-    match limits_in(words) {
-        Some(limits) => Ok(Job::Replay { limits }),
+    match setting_in(words) {
+        Some(setting) => Ok(Job::Replay {
+            seed: setting.seed,
+            limits: setting.limits,
+        }),
         None => Err(ArgsFault::Usage),
     }
 }

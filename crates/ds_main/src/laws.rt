@@ -6,7 +6,7 @@ use ds_check::accepted_are_not_refused;
 use ds_parse::{texts_are_not_refused, texts_spell_one_module};
 use ds_shape::layouts_are_not_refused;
 
-/// An input that is accepted for a job is not refused for it.
+/// An input that is accepted is not refused.
 pub fn accepted_inputs_are_not_refused()
     ensures { AcceptedInputsAreNotRefused }
 {

@@ -63,7 +63,7 @@ fn is_want_of_memory(fault: &Fault) -> bool
         Fault::Parse(fault) => parser_ran_out(fault),
         Fault::Shape(fault) => layout_ran_out(fault),
         Fault::Check(fault, _) => check_ran_out(fault),
-        Fault::Usage | Fault::Read | Fault::TooLong | Fault::OtherForm => false,
+        Fault::Usage | Fault::Read | Fault::TooLong => false,
     }
 }
 

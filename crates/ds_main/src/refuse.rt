@@ -20,11 +20,7 @@ fn status_by(fault: &Fault) -> u8
     match fault {
         Fault::Usage => 2,
         Fault::Read => 4,
-        Fault::TooLong
-        | Fault::Parse(_)
-        | Fault::Shape(_)
-        | Fault::Check(_, _)
-        | Fault::OtherForm => 1,
+        Fault::TooLong | Fault::Parse(_) | Fault::Shape(_) | Fault::Check(_, _) => 1,
     }
 }
 

@@ -3,7 +3,6 @@
 ghost use Rattle.std.specs.Prelude.{◌≡◌, false, length, IfOk};
 ghost use Rattle.ds_shape.specs.Accepted.{Accepted};
 ghost use Rattle.ds_plain.specs.Explained.{HasEnded, stop_in};
-ghost use Rattle.ds_form.specs.Form.{IsInForm};
 ghost use Rattle.ds_report.specs.Report.{IsReport};
 ghost use Rattle.ds_main.specs.Input.{function_names};
 ghost use Rattle.ds_main.specs.Run.{IsRunOfModule};
@@ -15,46 +14,42 @@ use crate::refuse::out_of_memory;
 use crate::status::status_by;
 use ds_ast::Module;
 use ds_core::{Ended, RunRecord, Schedule, replay};
-use ds_form::forms_ask_rows;
 use ds_fuel_laws::fuel_is_exact;
 use ds_io::Sink;
 use ds_lower::lower;
 use ds_map::Limits;
 use ds_plain_laws::legal_runs_are_plain;
 use ds_report::render;
+use ds_row_laws::accepted_modules_ask_rows;
 use ds_safe_laws::accepted_means;
 use ds_shape::{Shapes, words_are_counted};
 use std::alloc::{AllocError, Global};
 
-/// The seed of the schedule.
-const SEED: u64 = 0;
-
-/// Lowers a module and runs it.
-fn run<'a>(
+/// Lowers a module and runs it by a schedule.
+pub fn run<'a>(
     alloc: Global,
+    schedule: &Schedule,
     limits: &Limits,
     module: &'a Module,
     shapes: &Shapes<'a>,
 ) -> Result<RunRecord, AllocError>
     requires accepted { Accepted «module».now }
-    requires form { IsInForm «module».now }
     requires same { shapes.now ≡ «module».now.structs }
-    ensures { IfOk result (IsRunOfModule limits.now «module».now) }
+    ensures { IfOk result (IsRunOfModule schedule.now.cues schedule.now.seed limits.now «module».now) }
 {
     legal_runs_are_plain();
     fuel_is_exact();
     accepted_means();
-    forms_ask_rows();
+    accepted_modules_ask_rows();
     words_are_counted();
     let _fuel = limits.fuel();
     let code = lower(alloc, module, shapes)?;
-    let schedule = Schedule::seeded(alloc, SEED);
-    let record = replay(alloc, &code, limits, &schedule)?;
+    let record = replay(alloc, &code, limits, schedule)?;
     Ok(record)
 }
 
 /// The report of a run of a module.
-fn report_of(alloc: Global, module: &Module, run: &RunRecord) -> Result<Vec<u8>, AllocError>
+pub fn report_of(alloc: Global, module: &Module, run: &RunRecord) -> Result<Vec<u8>, AllocError>
     requires stops { length run.now.stops ≡ 16 }
     requires ended { HasEnded (stop_in run.now.stops 0) }
     ensures { IfOk result (λ text. IsReport (function_names «module».now) run.now.stops run.now.traces false text.items) }
@@ -63,20 +58,21 @@ fn report_of(alloc: Global, module: &Module, run: &RunRecord) -> Result<Vec<u8>,
     render(alloc, names.as_slice(), run, false)
 }
 
-/// Runs an accepted module of this stage's form with these sizes and offsets, and writes the report of the run.
+/// Runs an accepted module with these sizes and offsets by the schedule of a seed, and writes the report of the run.
 pub fn run_and_report<'a, K: Sink>(
     alloc: Global,
+    seed: u64,
     limits: &Limits,
     sink: &mut K,
     module: &'a Module,
     shapes: &Shapes<'a>,
 ) -> Ended
     requires accepted { Accepted «module».now }
-    requires form { IsInForm «module».now }
     requires same { shapes.now ≡ «module».now.structs }
-    ensures { RunEnds limits.now «module».now (writing K.taken K.faults sink.old sink.new) result }
+    ensures { RunEnds seed limits.now «module».now (writing K.taken K.faults sink.old sink.new) result }
 {
-    let Ok(record) = run(alloc, limits, module, shapes) else {
+    let schedule = Schedule::seeded(alloc, seed);
+    let Ok(record) = run(alloc, &schedule, limits, module, shapes) else {
         return out_of_memory(alloc);
     };
     match report_of(alloc, module, &record) {

@@ -19,7 +19,7 @@ use Rattle.ds_shape.specs.declared.fault.ShapeFault.TheVariants.{TwiceType, Unkn
 use Rattle.ds_shape.specs.declared.fault.ShapeFault.TheVariants as shape
 use Rattle.ds_report.specs.Function.{function_text}
 use Rattle.ds_report.specs.declared.fault.Fault.{Fault}
-use Rattle.ds_report.specs.declared.fault.Fault.TheVariants.{Usage, Read, TooLong, Parse, Shape, Check, OtherForm}
+use Rattle.ds_report.specs.declared.fault.Fault.TheVariants.{Usage, Read, TooLong, Parse, Shape, Check}
 
 -- what stands at a place, which is how many bytes of the text stand before it
 abbrev pub place_text : List ℕ → ℕ → List ℕ
@@ -113,4 +113,3 @@ fault_text TooLong = codes "error: input longer than 8388608 bytes\n"
 fault_text (Parse fault) = parse_text fault
 fault_text (Shape fault) = shape_text fault
 fault_text (Check fault names) = check_text names fault
-fault_text OtherForm = codes "error: not in this stage's form\n"

@@ -32,8 +32,6 @@ pub enum Fault {
     /// The module has a layout, and is not accepted. The names are those of all functions of the module in the order
     /// of the text, of which the fault tells numbers. Want of memory has no line here either.
     Check(TypeFault, List<Name>),
-    /// The module is not of the form that this stage runs.
-    OtherForm,
 }
 
 /// The line that tells a fault, with its line feed. Want of memory has none.
@@ -48,7 +46,6 @@ pub fn fault_line(alloc: Global, fault: &Fault) -> Result<Vec<u8>, AllocError>
         Fault::Parse(fault) => push_parse_fault(&mut line, fault)?,
         Fault::Shape(fault) => push_shape_fault(&mut line, fault)?,
         Fault::Check(fault, names) => push_type_fault(&mut line, names.as_slice(), fault)?,
-        Fault::OtherForm => push(&mut line, b"error: not in this stage's form\n")?,
     }
     Ok(line)
 }

@@ -1,10 +1,9 @@
 use Rattle.std.proofs.Common.{◌∙◌, inl, inr}
-use Rattle.ds_main.specs.declared.job.Job.TheVariants.{Check}
 use Rattle.ds_main.proofs.Endings.{delivers_text, stopped}
 use Rattle.ds_main.proofs.check.check.Goals as goal
 
 pub returns-in-Err : goal.returns-in-Err
-returns-in-Err g c = inl (stopped Check _ _ _ c.in-Err.why c.in-Err.ensures.none c.stop.ensures)
+returns-in-Err g c = inl (stopped _ _ _ c.in-Err.why c.in-Err.ensures.none c.stop.ensures)
 
 pub returns-in-Ok-accepted_line : goal.returns-in-Ok-accepted_line
 returns-in-Ok-accepted_line g c =

@@ -8,7 +8,7 @@ use Rattle.ds_main.proofs.entry.answer.Goals as goal
 
 pub returns-in-Replay : goal.returns-in-Replay
 returns-in-Replay g c =
-    replay_ends _ c.in-Replay.limits (subst (IsJob (texts c.args.words.now)) c.in-Replay.is c.in-Ok.ensures.job)
+    replay_ends _ c.in-Replay.seed c.in-Replay.limits (subst (IsJob (texts c.args.words.now)) c.in-Replay.is c.in-Ok.ensures.job)
     c.replay.ensures
 
 pub returns-in-Check : goal.returns-in-Check

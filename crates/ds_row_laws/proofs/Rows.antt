@@ -1,23 +1,24 @@
--- All that a thread of a module of the form asks has a row.
+-- All that a thread of an accepted module asks has a row.
 use Rattle.std.proofs.Common.{◌≡◌, ℕ, zero, suc, Bool, true, false, if◌then◌else◌, List, [], ◌∷◌, Option}
 use Rattle.std.proofs.Common.{Some, None, slice_get, refl}
+use Rattle.std.specs.Prelude.{All}
 use Rattle.ds_ast.specs.declared.instr.Instr.{Instr}
 use Rattle.ds_ast.specs.declared.module.Module.{Module}
 use Rattle.ds_ast.specs.declared.module.Function.{Function}
 use Rattle.ds_map.specs.Bounds.{Bounds}
+use Rattle.ds_shape.specs.Accepted.{IsGoodExternal}
 use Rattle.ds_plain.specs.Asking.{has_row}
 use Rattle.ds_plain.specs.Behaviour.{Asked, Asks, Silent, Outcome, Goes, Wants, Stops, Stuck}
 use Rattle.ds_plain.specs.Behaviour.{one_more, asked_by, ask, told_by, tell, behaviour}
 use Rattle.ds_meaning.specs.Frames.{State, Runs, Notes, TooLarge, first_frame, has_room, instruction_of}
 use Rattle.ds_meaning.specs.Meaning.{act_at, current, step}
 use Rattle.ds_meaning.specs.Program.{context, with_argument, start, start_by}
-use Rattle.ds_form.specs.Form.{IsInForm}
-use Rattle.ds_form.specs.Laws.{FormsAskRows}
-use Rattle.ds_form.proofs.Acts.{NoNote, Fits, act_fits}
+use Rattle.ds_row_laws.specs.Laws.{AcceptedModulesAskRows}
+use Rattle.ds_row_laws.proofs.Acts.{NoNote, Fits, act_fits}
 
 -- STEPS
 
-module _ (m : Module) (cursors : List ℕ) (form : IsInForm m) where
+module _ (m : Module) (cursors : List ℕ) (good : All IsGoodExternal m.functions) where
   step_fits : (lim : Bounds) (thread : ℕ) (s : State) → NoNote s
       → Fits lim cursors (step (context false lim m thread) s)
   step_fits lim thread (Runs fr below) i = by_instruction (instruction_of m fr)
@@ -25,7 +26,7 @@ module _ (m : Module) (cursors : List ℕ) (form : IsInForm m) where
       by_instruction : (o : Option Instr) → Fits lim cursors (act_at (context false lim m thread) fr below o)
       by_instruction None = tt
       by_instruction (Some j) =
-          act_fits m lim cursors thread (current (context false lim m thread) fr below j.result) form j.op
+          act_fits m lim cursors thread (current (context false lim m thread) fr below j.result) good j.op
   step_fits lim thread (Notes at' value fr below) i = absurd i
   step_fits lim thread (TooLarge function) i = refl
 
@@ -80,7 +81,8 @@ start_plain m function argument (Some f) = by_room (has_room m [] f)
 
 -- THE LAW
 
-pub forms_ask_rows : FormsAskRows
-forms_ask_rows m lim form thread function argument cursors answers =
-    all_rows lim cursors (step (context false lim m thread)) (λ s i. step_fits m cursors form lim thread s i) lim.fuel
+pub asks_rows : AcceptedModulesAskRows
+asks_rows m lim accepted thread function argument cursors answers =
+    all_rows lim cursors (step (context false lim m thread))
+    (λ s i. step_fits m cursors accepted.no_bad_external lim thread s i) lim.fuel
     answers (start m function argument) (start_plain m function argument (slice_get m.functions function))

@@ -1,9 +1,9 @@
--- What comes of an instruction of the form: what it asks has a row, and no note follows.
+-- What comes of an instruction of an accepted module: what it asks has a row, and no note follows.
 use Rattle.std.proofs.Common.{◌≡◌, ℕ, ◌+◌, ◌*◌, Bool, true, false, ◌==◌, if◌then◌else◌}
 use Rattle.std.proofs.Common.{not, suc, nat_le, nat_lt, List, [], ◌∷◌, ◌++◌, Option, Some, None, slice_get}
 use Rattle.std.proofs.Common.{refl, sym, subst, arith, inl, inr}
 use Rattle.std.proofs.lemmas.Bool.Decides.{nat_tests}
-use Rattle.std.specs.Prelude.{Result, Ok, Err}
+use Rattle.std.specs.Prelude.{Result, Ok, Err, All}
 use Rattle.ds_ast.specs.declared.name.Name.{Name}
 use Rattle.ds_ast.specs.declared.ty.Scalar.{Scalar}
 use Rattle.ds_ast.specs.declared.ty.Scalar.TheVariants.{I1, Ptr}
@@ -25,6 +25,8 @@ use Rattle.ds_map.specs.Bounds.{Bounds}
 use Rattle.ds_map.specs.Blocks.{is_marked, first_above}
 use Rattle.ds_map.specs.Regions.{stack}
 use Rattle.ds_shape.specs.Site.{function_number}
+use Rattle.ds_shape.specs.Accepted.{IsGoodExternal}
+use Rattle.ds_shape.specs.Externals.{HasOneOf, externals as signatures}
 use Rattle.ds_plain.specs.declared.Access.{Access}
 use Rattle.ds_plain.specs.declared.FreeAt.TheVariants.{LoadPage}
 use Rattle.ds_plain.specs.declared.Position.TheVariants as positions
@@ -45,11 +47,10 @@ use Rattle.ds_meaning.specs.Control.{ReturnValue, returns}
 use Rattle.ds_meaning.specs.Callees.{External, Malloc, Free, PrintI64, PthreadCreate, PthreadJoin, DsNote}
 use Rattle.ds_meaning.specs.Callees.{Callee, Defined, Declared, Unknown}
 use Rattle.ds_meaning.specs.Callees.{externals, external_among, callee_of, callee_at, callee_by, callee_numbered}
-use Rattle.ds_meaning.specs.Calls.{mallocs, frees, one_of, asks, calls}
+use Rattle.ds_meaning.specs.Calls.{mallocs, frees, function_in, creates, one_of, two_of, four_of, asks, calls}
 use Rattle.ds_meaning.specs.Meaning.{computes, act}
 use Rattle.ds_meaning.specs.Program.{context}
-use Rattle.ds_form.specs.Form.{IsExternalInForm, IsFunctionInForm, IsInForm}
-use Rattle.ds_form.proofs.Lists.{item_has}
+use Rattle.ds_row_laws.proofs.Lists.{item_has}
 
 -- no note begins
 abbrev pub NoNote : State → Type 0
@@ -217,13 +218,29 @@ module _ (m : Module) (lim : Bounds) (cursors : List ℕ) (thread : ℕ) (s : Cu
   free_fits : (args : List Operand) → Fits lim cursors (asks c s args Free)
   free_fits args = one_fits args _ (λ p. given_fits p.ty p.value _ frees_fits)
 
+  two_fits : (args : List Operand) (go : Operand → Operand → Outcome State)
+      → ((o p : Operand) → Fits lim cursors (go o p)) → Fits lim cursors (two_of args go)
+  two_fits [] go h = tt
+  two_fits (o ∷ rest) go h = one_fits rest (go o) (h o)
+
+  four_fits : (args : List Operand) (go : Operand → Operand → Operand → Operand → Outcome State)
+      → ((o p q r : Operand) → Fits lim cursors (go o p q r)) → Fits lim cursors (four_of args go)
+  four_fits [] go h = tt
+  four_fits (o ∷ []) go h = tt
+  four_fits (o ∷ p ∷ rest) go h = two_fits rest (go o p) (h o p)
+
+  creates_fits : (at attributes function argument : Operand) → Fits lim cursors (creates c s at function argument)
+  creates_fits at attributes function argument =
+      given_fits at.ty at.value _ (λ a. given_fits argument.ty argument.value _ (λ x.
+      given_by_fits (function_in c function.value) _ (λ f. located_fits Ptr a _ (λ access. (refl, λ answer. tt)))))
+
   -- the external can be called
   abbrev Served : External → Type 0
   Served Malloc = Unit {0}
   Served Free = Unit {0}
   Served PrintI64 = Unit {0}
-  Served PthreadCreate = ⊥
-  Served PthreadJoin = ⊥
+  Served PthreadCreate = Unit {0}
+  Served PthreadJoin = Unit {0}
   Served DsNote = ⊥
 
   -- what is called, where it is only declared, is such an external
@@ -237,8 +254,9 @@ module _ (m : Module) (lim : Bounds) (cursors : List ℕ) (thread : ℕ) (s : Cu
   asks_fits args Malloc h = malloc_fits args
   asks_fits args Free h = free_fits args
   asks_fits args PrintI64 h = print_fits args
-  asks_fits args PthreadCreate h = absurd h
-  asks_fits args PthreadJoin h = absurd h
+  asks_fits args PthreadCreate h = four_fits args _ creates_fits
+  asks_fits args PthreadJoin h =
+      two_fits args _ (λ number value. given_fits number.ty number.value _ (λ n. (refl, λ answer. tt)))
   asks_fits args DsNote h = absurd h
 
   calls_fits : (args : List Operand) (k : Callee) → CallsServed k → Fits lim cursors (calls c s args k)
@@ -247,22 +265,25 @@ module _ (m : Module) (lim : Bounds) (cursors : List ℕ) (thread : ℕ) (s : Cu
   calls_fits args (Declared external) h = asks_fits args external h
   calls_fits args Unknown h = tt
 
-  served : (name : Name) → IsExternalInForm name → CallsServed (external_among externals name)
-  served name (inl e) = subst (λ x. CallsServed (external_among externals x)) (sym e) tt
-  served name (inr (inl e)) = subst (λ x. CallsServed (external_among externals x)) (sym e) tt
-  served name (inr (inr e)) = subst (λ x. CallsServed (external_among externals x)) (sym e) tt
+  served : (f : Function) → HasOneOf signatures f → CallsServed (external_among externals f.name)
+  served f (inl h) = subst (λ x. CallsServed (external_among externals x)) (sym h.called) tt
+  served f (inr (inl h)) = subst (λ x. CallsServed (external_among externals x)) (sym h.called) tt
+  served f (inr (inr (inl h))) = subst (λ x. CallsServed (external_among externals x)) (sym h.called) tt
+  served f (inr (inr (inr (inl h)))) = subst (λ x. CallsServed (external_among externals x)) (sym h.called) tt
+  served f (inr (inr (inr (inr (inl h))))) = subst (λ x. CallsServed (external_among externals x)) (sym h.called) tt
+  served f (inr (inr (inr (inr (inr h))))) = absurd h
 
-  calls_served : IsInForm m → (name : Name) → CallsServed (callee_of m name)
-  calls_served form name = by_number (function_number m name)
+  calls_served : All IsGoodExternal m.functions → (name : Name) → CallsServed (callee_of m name)
+  calls_served good name = by_number (function_number m name)
     where
-      by_blocks : (n : ℕ) (f : Function) → IsFunctionInForm f → (bs : List Block) → f.blocks ≡ bs
+      by_blocks : (n : ℕ) (f : Function) → IsGoodExternal f → (bs : List Block) → f.blocks ≡ bs
           → CallsServed (callee_by n f bs)
-      by_blocks n f h [] e = served f.name (h e)
+      by_blocks n f h [] e = served f (h.1 e)
       by_blocks n f h (b ∷ bs) e = tt
 
       by_function : (n : ℕ) (o : Option Function) → slice_get m.functions n ≡ o → CallsServed (callee_at n o)
       by_function n None e = tt
-      by_function n (Some f) e = by_blocks n f (item_has IsFunctionInForm m.functions n f e form) f.blocks refl
+      by_function n (Some f) e = by_blocks n f (item_has IsGoodExternal m.functions n f e good) f.blocks refl
 
       by_number : (o : Option ℕ) → CallsServed (callee_numbered m o)
       by_number None = tt
@@ -278,33 +299,33 @@ module _ (m : Module) (lim : Bounds) (cursors : List ℕ) (thread : ℕ) (s : Cu
   ret_fits None = returns_fits None s.below
   ret_fits (Some o) = given_fits o.ty o.value _ (λ v. returns_fits (Some (o.ty, v)) s.below)
 
-  pub act_fits : IsInForm m → (op : Op) → Fits lim cursors (act c s op)
-  act_fits form (Bin op ty a b) =
+  pub act_fits : All IsGoodExternal m.functions → (op : Op) → Fits lim cursors (act c s op)
+  act_fits good (Bin op ty a b) =
       given_fits ty a _ (λ x. given_fits ty b _ (λ y. computes_fits (outcome op (width ty) x y)))
-  act_fits form (Icmp cond ty a b) = given_fits ty a _ (λ x. given_fits ty b _ (λ y. tt))
-  act_fits form (Select cond ty a b) =
+  act_fits good (Icmp cond ty a b) = given_fits ty a _ (λ x. given_fits ty b _ (λ y. tt))
+  act_fits good (Select cond ty a b) =
       given_fits I1 cond _ (λ n. given_fits ty a _ (λ x. given_fits ty b _ (λ y. tt)))
-  act_fits form (Cast op from a to) = given_fits from a _ (λ x. tt)
-  act_fits form (Alloca ty count) = alloca_fits ty count
-  act_fits form (Load ty at) = given_fits Ptr at _ (λ a. located_fits ty a _ (λ access. (refl, λ word. tt)))
-  act_fits form (Store ty value at) =
+  act_fits good (Cast op from a to) = given_fits from a _ (λ x. tt)
+  act_fits good (Alloca ty count) = alloca_fits ty count
+  act_fits good (Load ty at) = given_fits Ptr at _ (λ a. located_fits ty a _ (λ access. (refl, λ word. tt)))
+  act_fits good (Store ty value at) =
       given_fits ty value _ (λ v. given_fits Ptr at _ (λ a. located_fits ty a _ (λ access. (refl, λ z. tt))))
-  act_fits form (Gep ty base indices) =
+  act_fits good (Gep ty base indices) =
       given_fits Ptr base _ (λ a. given_by_fits (offset_by c s.frame.env ty indices) _ (λ bytes. tt))
-  act_fits form (Call result callee args) = calls_fits args (callee_of m callee) (calls_served form callee)
-  act_fits form (Phi ty arms) = tt
-  act_fits form (Rmw op at ty value) =
+  act_fits good (Call result callee args) = calls_fits args (callee_of m callee) (calls_served good callee)
+  act_fits good (Phi ty arms) = tt
+  act_fits good (Rmw op at ty value) =
       given_fits Ptr at _ (λ a. given_fits ty value _ (λ v. located_fits ty a _ (λ access.
       (refl, λ word. rmw_notes op ty at value _))))
-  act_fits form (Cmpxchg at ty expected new) =
+  act_fits good (Cmpxchg at ty expected new) =
       given_fits Ptr at _ (λ a. given_fits ty expected _ (λ x. given_fits ty new _ (λ v.
       located_fits ty a _ (λ access. (refl, λ word. tt)))))
-  act_fits form (Extract ty of index) = given_by_fits (part_in s.frame.env of index) _ (λ x. tt)
+  act_fits good (Extract ty of index) = given_by_fits (part_in s.frame.env of index) _ (λ x. tt)
   act_fits form Fence = tt
-  act_fits form (Ret value) = ret_fits value
-  act_fits form (Br label) = goes_fits label
-  act_fits form (CondBr cond first second) =
+  act_fits good (Ret value) = ret_fits value
+  act_fits good (Br label) = goes_fits label
+  act_fits good (CondBr cond first second) =
       given_fits I1 cond _ (λ n. goes_fits (if n == 0 then second else first))
-  act_fits form (Switch ty value other cases) =
+  act_fits good (Switch ty value other cases) =
       given_fits ty value _ (λ n. goes_fits (case_for n cases other))
   act_fits form Unreachable = refl
