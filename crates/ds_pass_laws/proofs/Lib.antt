@@ -1,0 +1,7 @@
+mod Shifted
+mod Called
+mod Same
+mod Passed
+mod Stepped
+mod Quiet
+mod Composed
