@@ -1,5 +1,5 @@
 /* A list whose first node is freed while a local pointer still holds its address, which is then used.
-   dangling.ll is what clang makes of this file, and dangling.canonical.ll what `dangsan instrument` makes of that. */
+   dangling.ll is what clang makes of this file, and dangling.instrumented.ll what `dangsan instrument` makes of that. */
 #include <stdlib.h>
 
 void print_i64(long value);

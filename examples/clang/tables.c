@@ -1,5 +1,5 @@
 /* Globals that begin with structs, a text, numbers and an address, and loops and a switch over them.
-   tables.ll is what clang makes of this file, and tables.canonical.ll what `dangsan instrument` makes of that. */
+   tables.ll is what clang makes of this file, and tables.instrumented.ll what `dangsan instrument` makes of that. */
 void print_i64(long value);
 
 struct pair {

@@ -1,5 +1,5 @@
 /* Two threads that count with atomic operations, and leave the address of a freed cell in a shared pointer.
-   threads.ll is what clang makes of this file, and threads.canonical.ll what `dangsan instrument` makes of that. */
+   threads.ll is what clang makes of this file, and threads.instrumented.ll what `dangsan instrument` makes of that. */
 #include <pthread.h>
 #include <stdatomic.h>
 #include <stdlib.h>

@@ -6,7 +6,6 @@ use Rattle.std.specs.Option.{option_map}
 use Rattle.std.specs.List.{list_any}
 use Rattle.ds_ast.specs.declared.module.Module.{Module}
 use Rattle.ds_io.specs.Sink.{Takes, TakesFront}
-use Rattle.ds_print.specs.Canonical.{canon}
 use Rattle.ds_report.specs.declared.fault.Fault.{Fault}
 use Rattle.ds_report.specs.declared.fault.Fault.TheVariants.{Usage, Read, TooLong, Parse, Shape, Check}
 use Rattle.ds_report.specs.Fault.{fault_text}
@@ -20,7 +19,7 @@ use Rattle.ds_main.specs.declared.job.Job.TheVariants as jobs
 use Rattle.ds_main.specs.Job.{Setting, setting_in, IsJob, HasJob, NoJob}
 use Rattle.ds_main.specs.Input.{IsAccepted, IsModuleOfInput, SpellsAccepted, Held, function_names}
 use Rattle.ds_main.specs.Refusal.{IsRefused, AcceptedInputsAreNotRefused}
-use Rattle.ds_main.specs.Text.{IsTextOf, accepted_text}
+use Rattle.ds_main.specs.Text.{IsTextOf, accepted_text, instrumented_text}
 use Rattle.ds_main.specs.Run.{IsEmpty, IsRunOfInput, read_program}
 use Rattle.ds_main.specs.Replayed.{IsReportOfEachOrder}
 use Rattle.ds_main.specs.Status.{is_full, run_status, IsRunStatus, status_of, IsFaultStatus, IsCutShort, IsStatus}
@@ -237,9 +236,9 @@ checked call ends is zero =
     (answered call ends jobs.Check (λ seed lim e. absurd (cc e)) is zero)
 
 pub instrumented : (call : Call) → Ends call → IsJob call.words jobs.Instrument → call.ended.status ≡ 0
-    → (m : Module) × IsModuleOfInput call.source.left m × Takes call.sink.taken (canon m) call.sink.taken_after
+    → (m : Module) × IsModuleOfInput call.source.left m × Takes call.sink.taken (instrumented_text m) call.sink.taken_after
 instrumented call ends is zero =
-    by_text call jobs.Instrument canon (λ m bytes e. e)
+    by_text call jobs.Instrument instrumented_text (λ m bytes e. e)
     (answered call ends jobs.Instrument (λ seed lim e. absurd (cc e)) is zero)
 
 pub of_replay : (call : Call) → Ends call → IsRunStatus call.ended.status → ¬ (call.ended.status ≡ 0)

@@ -4,6 +4,7 @@ use Rattle.ds_ast.specs.declared.module.Module.{Module}
 use Rattle.ds_ast.specs.declared.module.Function.{Function}
 use Rattle.ds_ast.specs.declared.module.Block.{Block}
 use Rattle.ds_shape.specs.Types.{instructions_of}
+use Rattle.ds_pass.specs.Noted.{noted}
 use Rattle.ds_print.specs.Canonical.{canon}
 use Rattle.ds_main.specs.declared.job.Job.{Job}
 use Rattle.ds_main.specs.declared.job.Job.TheVariants.{Replay, Check, Instrument}
@@ -24,8 +25,12 @@ accepted_text m =
     ++ decimal (length (flat_map instructions_of m.functions))
     ++ codes "\n"
 
+-- the module with its notes, in canonical form
+abbrev pub instrumented_text : Module → List ℕ
+instrumented_text m = canon (noted m)
+
 -- the text that the job writes of the module, where it runs none
 abbrev pub IsTextOf : Job → Module → List ℕ → Type 0
 IsTextOf (Replay seed lim) m text = ⊥
 IsTextOf Check m text = text ≡ accepted_text m
-IsTextOf Instrument m text = text ≡ canon m
+IsTextOf Instrument m text = text ≡ instrumented_text m

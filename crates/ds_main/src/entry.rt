@@ -6,7 +6,6 @@ ghost use Rattle.ds_ast.specs.declared.module.Module.{Module};
 ghost use Rattle.ds_io.specs.Counts.{Rose};
 ghost use Rattle.ds_io.specs.Sink.{Takes, TakesFront};
 ghost use Rattle.ds_map.specs.Bounds.{Bounds};
-ghost use Rattle.ds_print.specs.Canonical.{canon};
 ghost use Rattle.ds_report.specs.declared.fault.Fault.{Fault};
 ghost use Rattle.ds_report.specs.Fault.{fault_text};
 ghost use Rattle.ds_report.specs.Report.{IsReport};
@@ -14,7 +13,7 @@ ghost use Rattle.ds_main.specs.declared.job.Job.{Job};
 ghost use Rattle.ds_main.specs.Job.{texts, IsJob, HasJob, NoJob};
 ghost use Rattle.ds_main.specs.Input.{Held, IsAccepted, IsModuleOfInput, function_names};
 ghost use Rattle.ds_main.specs.Refusal.{IsRefused};
-ghost use Rattle.ds_main.specs.Text.{accepted_text};
+ghost use Rattle.ds_main.specs.Text.{accepted_text, instrumented_text};
 ghost use Rattle.ds_main.specs.Run.{IsEmpty, IsRunOfInput};
 ghost use Rattle.ds_main.specs.Replayed.{IsReportOfEachOrder};
 ghost use Rattle.ds_main.specs.Status.{run_status, IsRunStatus, status_of, IsFaultStatus, IsCutShort, IsStatus};
@@ -64,7 +63,7 @@ fn answer<S: Source, K: Sink>(
 /// All three jobs read the source to its end, unless it fails or holds too much, and take its module only where that
 /// is accepted: it keeps all rules.
 /// `check` writes that to the sink, with how many functions the module defines and how many instructions they have.
-/// `instrument` writes the canonical text of the module. `replay` runs it with up to 16 threads, each step by the
+/// `instrument` writes the module with a note behind each store of a pointer. `replay` runs it with up to 16 threads, each step by the
 /// schedule that `--seed` gives, with a heap of so many pages as `--pages` says, and at most so many units for each
 /// thread as `--fuel` says, and writes the report of the run. No thread of the system is started, and no pace is called.
 ///
@@ -105,7 +104,7 @@ pub fn dangsan_main<R: Threads + Sync, S: Source, K: Sink, P: Pace>(
         × Takes (K.taken sink.old) (accepted_text m) (K.taken sink.new) }
     ensures instrumented { IsJob (texts words.now) Job.Instrument → result.status ≡ 0
         → (m : Module) × IsModuleOfInput (S.left source.old) m
-        × Takes (K.taken sink.old) (canon m) (K.taken sink.new) }
+        × Takes (K.taken sink.old) (instrumented_text m) (K.taken sink.new) }
     ensures of_replay { IsRunStatus result.status → ¬ (result.status ≡ 0)
         → (seed : ℕ) × (lim : Bounds) × IsJob (texts words.now) (Job.Replay seed lim) }
     // With 0, 3, 7, 8 and 9 the source was read to its end.

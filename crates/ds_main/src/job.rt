@@ -18,7 +18,7 @@ pub enum Job {
     Replay { seed: u64, limits: Limits },
     /// Tell that the module that the input spells is accepted, and how much it has.
     Check,
-    /// Write the canonical text of the module that the input spells.
+    /// Write the module that the input spells, with its notes, in canonical form.
     Instrument,
 }
 

@@ -1,5 +1,5 @@
-//! The top call of `dangsan`: reads a module that keeps all rules, and tells how much it has, writes its canonical
-//! text, or runs it on shared words and reports what happened.
+//! The top call of `dangsan`: reads a module that keeps all rules, and tells how much it has, writes it with its
+//! notes, or runs it on shared words and reports what happened.
 #![tactic(auto)]
 
 mod accept;

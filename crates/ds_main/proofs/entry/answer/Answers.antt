@@ -1,8 +1,7 @@
 use Rattle.std.proofs.Common.{refl, subst}
-use Rattle.ds_print.specs.Canonical.{canon}
 use Rattle.ds_main.specs.declared.job.Job.TheVariants as jobs
 use Rattle.ds_main.specs.Job.{texts, IsJob}
-use Rattle.ds_main.specs.Text.{accepted_text}
+use Rattle.ds_main.specs.Text.{accepted_text, instrumented_text}
 use Rattle.ds_main.proofs.Endings.{only_usage, usage_ends, replay_ends, answer_ends}
 use Rattle.ds_main.proofs.entry.answer.Goals as goal
 
@@ -18,7 +17,7 @@ returns-in-Check g c =
 
 pub returns-in-Instrument : goal.returns-in-Instrument
 returns-in-Instrument g c =
-    answer_ends _ jobs.Instrument canon (λ m. refl)
+    answer_ends _ jobs.Instrument instrumented_text (λ m. refl)
     (subst (IsJob (texts c.args.words.now)) c.in-Instrument.is c.in-Ok.ensures.job) c.instrument.ensures
 
 pub returns-in-Err : goal.returns-in-Err

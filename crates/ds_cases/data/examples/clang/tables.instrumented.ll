@@ -141,3 +141,4 @@ define i32 @weight_of(i8 %0) {
   ret i32 %40
 }
 declare void @print_i64(i64)
+declare void @ds_note(ptr, ptr)

@@ -69,8 +69,10 @@ define ptr @work(ptr %0) {
   %7 = alloca i64
   %8 = alloca i8
   store ptr %0, ptr %2
+  call void @ds_note(ptr %2, ptr %0)
   %9 = call ptr @malloc(i64 8)
   store ptr %9, ptr %3
+  call void @ds_note(ptr %3, ptr %9)
   store i64 1, ptr %4
   %10 = load i64, ptr %4
   %11 = atomicrmw add ptr @turns, i64 %10 seq_cst
@@ -80,6 +82,7 @@ define ptr @work(ptr %0) {
   store i64 %12, ptr %13
   %14 = load ptr, ptr %3
   store ptr %14, ptr @shared
+  call void @ds_note(ptr @shared, ptr %14)
   %15 = load ptr, ptr %3
   call void @free(ptr %15)
   store i64 0, ptr %6
@@ -105,3 +108,4 @@ declare i32 @pthread_join(i64, ptr)
 declare void @print_i64(i64)
 declare ptr @malloc(i64)
 declare void @free(ptr)
+declare void @ds_note(ptr, ptr)

@@ -7,6 +7,7 @@ define void @push(i64 %0) {
   store i64 %0, ptr %2
   %4 = call ptr @malloc(i64 16)
   store ptr %4, ptr %3
+  call void @ds_note(ptr %3, ptr %4)
   %5 = load i64, ptr %2
   %6 = load ptr, ptr %3
   %7 = getelementptr %struct.node, ptr %6, i32 0, i32 0
@@ -15,8 +16,10 @@ define void @push(i64 %0) {
   %9 = load ptr, ptr %3
   %10 = getelementptr %struct.node, ptr %9, i32 0, i32 1
   store ptr %8, ptr %10
+  call void @ds_note(ptr %10, ptr %8)
   %11 = load ptr, ptr %3
   store ptr %11, ptr @head
+  call void @ds_note(ptr @head, ptr %11)
   ret void
 }
 declare ptr @malloc(i64)
@@ -46,10 +49,12 @@ define i32 @main() {
 14:
   %15 = load ptr, ptr @head
   store ptr %15, ptr %3
+  call void @ds_note(ptr %3, ptr %15)
   %16 = load ptr, ptr @head
   %17 = getelementptr %struct.node, ptr %16, i32 0, i32 1
   %18 = load ptr, ptr %17
   store ptr %18, ptr @head
+  call void @ds_note(ptr @head, ptr %18)
   %19 = load ptr, ptr %3
   call void @free(ptr %19)
   %20 = load ptr, ptr %3
@@ -60,3 +65,4 @@ define i32 @main() {
 }
 declare void @free(ptr)
 declare void @print_i64(i64)
+declare void @ds_note(ptr, ptr)
