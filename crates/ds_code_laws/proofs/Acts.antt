@@ -51,7 +51,7 @@ use Rattle.ds_meaning.specs.Steps.{Current, given_by, given}
 use Rattle.ds_meaning.specs.Memory as memory
 use Rattle.ds_meaning.specs.Memory.{access_at}
 use Rattle.ds_meaning.specs.Control as control
-use Rattle.ds_meaning.specs.Control.{ReturnValue, returned_bits, with_returned, phi_values, arguments}
+use Rattle.ds_meaning.specs.Control.{ReturnValue, with_returned, phi_values, arguments}
 use Rattle.ds_meaning.specs.Callees.{Callee, Defined, Declared, callee_of, callee_at, callee_by, callee_numbered}
 use Rattle.ds_meaning.specs.Callees as callees
 use Rattle.ds_meaning.specs.Calls as calls

@@ -29,7 +29,7 @@ use Rattle.ds_meaning.specs.Frames.{Frame, State, Runs, Notes, TooLarge, blocks_
 use Rattle.ds_meaning.specs.Frames.{first_frame, has_room}
 use Rattle.ds_meaning.specs.Meaning as meaning
 use Rattle.ds_meaning.specs.Program as meant
-use Rattle.ds_meaning.specs.Program.{context, zero_for}
+use Rattle.ds_meaning.specs.Program.{zero_for}
 use Rattle.ds_code.specs.declared.functions.CodeFunction.{CodeFunction}
 use Rattle.ds_code.specs.Machine.{Machine, cells_in, code_in}
 use Rattle.ds_code.specs.CodeMeaning.{act_at, step}

@@ -73,7 +73,7 @@ distinct_by m f bounds good (b ∷ bs) e =
     distinct_left (parameter_names f) (flat_map names_of_block f.blocks)
     (good (λ none. absurd (cc (e, none)))).no_twice_local
 
-distinct_parameters : (m : Module) → IsWellFormed m → HasDistinctParameters m
+pub distinct_parameters : (m : Module) → IsWellFormed m → HasDistinctParameters m
 distinct_parameters m well n f is =
     distinct_by m f (all_get IsFunction m.functions n f well.bounds.functions is)
     (all_get (IsGood m) m.functions n f well.functions is) f.blocks refl
@@ -102,17 +102,17 @@ module _ (m : Module) (lim : Bounds) (code' : CodeParts) (low : IsLowered m code
       (program_of lim code').behaves thread function argument answers
       ≡ (meaning.program_of false lim m).behaves thread function argument answers
 
-  all_agree : IsWellFormed m → ((thread function argument : ℕ) (f : Function) (answers : List ℕ) →
+  pub all_agree : HasDistinctParameters m → ((thread function argument : ℕ) (f : Function) (answers : List ℕ) →
       slice_get m.functions function ≡ Some f → (f.blocks ≡ [] → ⊥) →
       Means (step (context false lim m thread)) lim.fuel (start m function argument) answers) → AllAgree
-  all_agree well means thread function argument answers =
+  all_agree distinct means thread function argument answers =
       sym (all_same (record {
         m = m;
         lim = lim;
         thread = thread;
         code = code';
         functions = low.functions;
-        distinct = distinct_parameters m well;
+        distinct = distinct;
       }) function argument answers (λ f is some. means thread function argument f answers is some))
 
   pub same_program : AllAgree → program_of lim code' ≡ meaning.program_of false lim m
@@ -131,8 +131,10 @@ module _ (m : Module) (lim : Bounds) (code' : CodeParts) (low : IsLowered m code
 
 pub code_means : WellFormedMeans → CodeMeans
 code_means mean m lim parts well known low =
-    same_program m lim parts low (all_agree m lim parts low well (mean m well known false lim))
+    same_program m lim parts low
+    (all_agree m lim parts low (distinct_parameters m well) (mean m well known false lim))
 
 pub accepted_code_means : AcceptedMeans → AcceptedCodeMeans
 accepted_code_means mean m lim parts accepted low =
-    same_program m lim parts low (all_agree m lim parts low accepted.well_formed (mean m false lim accepted))
+    same_program m lim parts low
+    (all_agree m lim parts low (distinct_parameters m accepted.well_formed) (mean m false lim accepted))

@@ -41,6 +41,22 @@ module _ {S T : Type 0} (R : S → T → Type 0) where
       ap (λ x. Asks 1 x (requests.Stop b)) r.0 ∙ ap (λ x. Asks 1 p' (requests.Stop x)) r.1
   asks_same M go go' h (Stops p b) Stuck i r = absurd r
 
+  means_by : (M : S → Type 0) (M' : T → Type 0) → ((s : S) (t : T) → M s → R s t → M' t)
+      → (o : Outcome S) (o' : Outcome T) → MeansBy M o → Agree R o o' → MeansBy M' o'
+  means_by M M' h Stuck o' i r = absurd i
+  means_by M M' h (Goes s) (Goes t) i r = h s t i r
+  means_by M M' h (Goes s) (Wants p q k) i r = absurd r
+  means_by M M' h (Goes s) (Stops p b) i r = absurd r
+  means_by M M' h (Goes s) Stuck i r = absurd r
+  means_by M M' h (Wants p q k) (Goes t) i r = absurd r
+  means_by M M' h (Wants p q k) (Wants p' q' k') i r = tt
+  means_by M M' h (Wants p q k) (Stops p' b) i r = absurd r
+  means_by M M' h (Wants p q k) Stuck i r = absurd r
+  means_by M M' h (Stops p b) (Goes t) i r = absurd r
+  means_by M M' h (Stops p b) (Wants p' q k) i r = absurd r
+  means_by M M' h (Stops p b) (Stops p' b') i r = tt
+  means_by M M' h (Stops p b) Stuck i r = absurd r
+
   tells_related : (M : S → Type 0) (go : S → S) (go' : T → T) (s : S) (t : T) (a : ℕ) → R s t
       → ((s : S) (t : T) → M s → R s t → R (go s) (go' t))
       → (o : Outcome S) (o' : Outcome T) → MeansBy M o → Agree R o o' → R (told_by go s a o) (told_by go' t a o')
@@ -71,6 +87,20 @@ module _ {S T : Type 0} (R : S → T → Type 0) (step : S → Outcome S) (step'
   tell_related a (suc n) s t i r =
       tells_related R (MeansNext step n) (λ x. tell step n x a) (λ y. tell step' n y a) s t a r
       (λ x y j u. tell_related a n x y j u) (step s) (step' t) i (agree s t r)
+
+  means_next : (n : ℕ) (s : S) (t : T) → MeansNext step n s → R s t → MeansNext step' n t
+  means_next zero s t i r = tt
+  means_next (suc n) s t i r =
+      means_by R (MeansNext step n) (MeansNext step' n) (λ x y j u. means_next n x y j u) (step s) (step' t) i
+      (agree s t r)
+
+  -- the second has a meaning too
+  pub means_too : (n : ℕ) (answers : List ℕ) (s : S) (t : T) → Means step n s answers → R s t → Means step' n t answers
+  means_too n [] s t i r = means_next n s t i r
+  means_too n (a ∷ answers) s t i r = (
+    means_next n s t i.0 r,
+    means_too n answers _ _ i.1 (tell_related a n s t i.0 r),
+  )
 
   -- they behave the same
   pub behaves_same : (n : ℕ) (answers : List ℕ) (s : S) (t : T) → Means step n s answers → R s t

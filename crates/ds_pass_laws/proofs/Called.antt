@@ -106,7 +106,7 @@ pub no_function : (m : Module) (n : ℕ) → slice_get m.functions n ≡ None
     → NoFunction (slice_get (noted m).functions n)
 no_function m n e = none_there m.functions n e
 
-no_blocks : (o : Option Function) → NoFunction o → blocks_in o ≡ []
+pub no_blocks : (o : Option Function) → NoFunction o → blocks_in o ≡ []
 no_blocks None NoneThere = refl
 no_blocks (Some f) DeclaredThere = refl
 

@@ -1,7 +1,6 @@
 -- An accepted module with its notes is the program of the module whose stores note by themselves.
-use Rattle.std.proofs.Common.{◌≡◌, ℕ, zero, suc, Bool, true, false, if◌then◌else◌, List, [], ◌∷◌, map, Option, Some}
-use Rattle.std.proofs.Common.{None}
-use Rattle.std.proofs.Common.{slice_get, refl, ap, sym, ◌∙◌, subst}
+use Rattle.std.proofs.Common.{◌≡◌, ℕ, zero, suc, Bool, true, false, if◌then◌else◌, List, [], ◌∷◌, map, Option, Some, inl, inr}
+use Rattle.std.proofs.Common.{None, slice_get, refl, ap, sym, ◌∙◌, subst}
 use Rattle.std.specs.Prelude.{codes, unwrap_or}
 use mathlib.Core.Path.{fun_ext}
 use Rattle.ds_ast.specs.declared.name.Name.{Name}
@@ -21,11 +20,15 @@ use Rattle.ds_meaning.specs.Meaning.{act_at, step}
 use Rattle.ds_meaning.specs.Program.{context, start, start_by, with_argument, main_number, program_of}
 use Rattle.ds_safe_laws.specs.Means.{MeansBy, MeansNext, Means}
 use Rattle.ds_safe_laws.specs.Laws.{AcceptedMeans}
-use Rattle.ds_code_laws.proofs.Simulated.{behaves_same}
+use Rattle.ds_names.specs.Names.{Among, AreDistinct}
+use Rattle.ds_code.specs.Cells.{parameter_names}
+use Rattle.ds_code_laws.specs.Laws.{HasDistinctParameters}
+use Rattle.ds_code_laws.proofs.Composed.{distinct_parameters, all_agree, same_program}
+use Rattle.ds_code_laws.proofs.Simulated.{behaves_same, means_too}
 use Rattle.ds_pass.specs.Noted.{noted, noted_block, noted_function}
-use Rattle.ds_pass_laws.specs.Laws.{NotedModulesAgree}
+use Rattle.ds_pass_laws.specs.Laws.{NotedModulesAgree, NotedCodeMeans}
 use Rattle.ds_pass_laws.proofs.Shifted.{entry_noted}
-use Rattle.ds_pass_laws.proofs.Called.{NoFunction, NoneThere, DeclaredThere, no_function, number_kept, function_kept}
+use Rattle.ds_pass_laws.proofs.Called.{NoFunction, NoneThere, DeclaredThere, no_blocks, no_function, number_kept, function_kept}
 use Rattle.ds_pass_laws.proofs.Called.{starts_noted}
 use Rattle.ds_pass_laws.proofs.Passed.{Follows, room_both}
 use Rattle.ds_pass_laws.proofs.Stepped.{step_both}
@@ -159,6 +162,15 @@ module _ (mean : AcceptedMeans) (m : Module) (accepted : Accepted m) (lim : Boun
         (mean m true lim accepted thread function argument f answers there some)
         (by_room (Follows m) (follows (has_room m [] f)))
 
+    -- with its notes it has a meaning too
+    noted_means : (f.blocks ≡ [] → ⊥)
+        → Means (step (context false lim (noted m) thread)) lim.fuel (start (noted m) function argument) answers
+    noted_means some =
+        means_too (Follows m) (step (context true lim m thread)) (step (context false lim (noted m) thread))
+        (step_both m (is_quiet m accepted) lim thread) lim.fuel answers (start m function argument)
+        (start (noted m) function argument) (mean m true lim accepted thread function argument f answers there some)
+        (by_room (Follows m) (follows (has_room m [] f)))
+
     -- it is declared
     with_none : f.blocks ≡ [] → AreSame (start m function argument) (start (noted m) function argument)
     with_none none = by_room AreSame (by_test (has_room m [] f))
@@ -187,6 +199,44 @@ module _ (mean : AcceptedMeans) (m : Module) (accepted : Accepted m) (lim : Boun
       by_function None e = without e
       by_function (Some f) e = by_blocks f e f.blocks refl
 
+  -- each function with notes that is defined has a meaning
+  noted_meaning : (f' : Function) → slice_get (noted m).functions function ≡ Some f' → (f'.blocks ≡ [] → ⊥)
+      → Means (step (context false lim (noted m) thread)) lim.fuel (start (noted m) function argument) answers
+  noted_meaning f' is some = by_function (slice_get m.functions function) refl
+    where
+      by_function : (o : Option Function) → slice_get m.functions function ≡ o
+          → Means (step (context false lim (noted m) thread)) lim.fuel (start (noted m) function argument) answers
+      by_function None e =
+          absurd (some (sym (ap blocks_in is)
+          ∙ no_blocks (slice_get (noted m).functions function) (no_function m function e)))
+      by_function (Some f) e =
+          noted_means f e (λ none. some (sym (ap blocks_in is) ∙ ap blocks_in (function_kept m function f e)
+          ∙ ap (λ (bs : List Block). map noted_block bs) none))
+
+-- PARAMETERS
+
+apart : Among (Number 0) (Number 1 ∷ []) → ⊥
+apart (inl e) = absurd (cc)
+apart (inr a) = a
+
+distinct_by : (o : Option Function) → NoFunction o → (f : Function) → o ≡ Some f → AreDistinct (parameter_names f)
+distinct_by None NoneThere f e = absurd (cc)
+distinct_by (Some g) DeclaredThere f e =
+    let same : g ≡ f = cc in
+    subst (λ (u : Function). AreDistinct (parameter_names u)) same (apart, ((λ a. a), tt))
+
+-- no function with notes has two parameters of one name
+distinct_noted : (m : Module) → Accepted m → HasDistinctParameters (noted m)
+distinct_noted m accepted n f is = by_function (slice_get m.functions n) refl
+  where
+    by_function : (o : Option Function) → slice_get m.functions n ≡ o → AreDistinct (parameter_names f)
+    by_function None e = distinct_by (slice_get (noted m).functions n) (no_function m n e) f is
+    by_function (Some g) e =
+        let both : Some (noted_function g) ≡ Some f = sym (function_kept m n g e) ∙ is in
+        let same : noted_function g ≡ f = cc in
+        subst (λ (u : Function). AreDistinct (parameter_names u)) same
+        (distinct_parameters m accepted.well_formed n g e)
+
 -- THE PROGRAM
 
 abbrev made : (main : ℕ) (image : List ℕ) (may_start : ℕ → Bool) (behaves : (thread function argument : ℕ) → Behaviour)
@@ -209,3 +259,10 @@ noted_modules_agree mean m lim accepted =
     ap (λ n. made n q.image q.may_start q.behaves) (same_main m accepted)
     ∙ ap (λ s. made p.main p.image s q.behaves) starts
     ∙ ap (λ b. made p.main p.image p.may_start b) behaves
+
+pub noted_code_means : AcceptedMeans → NotedCodeMeans
+noted_code_means mean m lim parts accepted low =
+    same_program (noted m) lim parts low (all_agree (noted m) lim parts low (distinct_noted m accepted)
+    (λ thread function argument f answers is some.
+    noted_meaning mean m accepted lim thread function argument answers f is some))
+    ∙ noted_modules_agree mean m lim accepted
