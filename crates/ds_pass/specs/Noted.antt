@@ -39,8 +39,8 @@ note_of I32 at value = []
 note_of I64 at value = []
 note_of Ptr at value = note at value ∷ []
 
--- What stands behind the instruction: the note of what it writes, where that is a pointer that it was given. A
--- `cmpxchg` is noted with what it writes if it does, also where it does not.
+-- What stands behind the instruction: the note of the pointer that a `store`, an `atomicrmw xchg` or a `cmpxchg`
+-- writes. Of a `cmpxchg` that is the new value, also where it does not exchange.
 abbrev pub notes_behind : Op → List Instr
 notes_behind (Bin op ty a b) = []
 notes_behind (Icmp condition ty a b) = []

@@ -152,9 +152,10 @@ fn noted_functions(alloc: Global, functions: &[Function]) -> Result<List<Functio
 }
 
 /// The module with a note behind each instruction that writes a pointer to memory: a `store` of type `ptr`, an
-/// `atomicrmw xchg` of type `ptr` and a `cmpxchg` of type `ptr`. A note is `call void @ds_note(ptr L, ptr V)` with the
-/// address and the pointer, that of a `cmpxchg` also where it does not exchange. Behind the functions stands `declare
-/// void @ds_note(ptr, ptr)`. Nothing else differs. An `Err` comes only where there is not enough memory.
+/// `atomicrmw xchg` of type `ptr` and a `cmpxchg` of type `ptr`. A note is `call void @ds_note(ptr L, ptr V)`, where L
+/// is the address and V the pointer that is written; of a `cmpxchg` V is the new value, also where it does not
+/// exchange. Behind the functions stands `declare void @ds_note(ptr, ptr)`. Nothing else differs. An `Err` comes only
+/// where there is not enough memory.
 pub fn instrument(alloc: Global, module: &Module) -> Result<Module, AllocError>
     ensures { IfOk result (λ with_notes. with_notes ≡ noted «module».now) }
 {
