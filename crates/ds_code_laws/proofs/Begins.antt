@@ -122,7 +122,7 @@ with_long argument (p ∷ ps) cells = length-set cells 0 (cut p.ty argument)
 -- NOTHING MEANT
 
 -- a thread whose first instruction has no meaning asks nothing
-silent : {S : Type 0} (step : S → Outcome S) (s : S) → step s ≡ Stuck → (n : ℕ) (answers : List ℕ)
+pub silent : {S : Type 0} (step : S → Outcome S) (s : S) → step s ≡ Stuck → (n : ℕ) (answers : List ℕ)
     → behaviour step n s answers ≡ Silent
 silent step s e n [] = by_fuel n
   where
@@ -142,7 +142,7 @@ stops_next : {S : Type 0} (step : S → Outcome S) (s : S) (place : Place) (stop
 stops_next step s place stop e zero = tt
 stops_next step s place stop e (suc n) = subst (λ o. MeansBy (MeansNext step n) o) (sym e) tt
 
-stops_mean : {S : Type 0} (step : S → Outcome S) (s : S) (place : Place) (stop : Stop) → step s ≡ Stops place stop
+pub stops_mean : {S : Type 0} (step : S → Outcome S) (s : S) (place : Place) (stop : Stop) → step s ≡ Stops place stop
     → (n : ℕ) (answers : List ℕ) → Means step n s answers
 stops_mean step s place stop e n [] = stops_next step s place stop e n
 stops_mean step s place stop e n (a ∷ answers) = (

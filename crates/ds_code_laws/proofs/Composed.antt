@@ -33,7 +33,7 @@ use Rattle.ds_code_laws.proofs.Begins.{all_same}
 -- DISTINCT PARAMETERS
 
 -- what all have has the one at a place
-all_get : {A : Type 0} (P : A → Type 0) (xs : List A) (n : ℕ) (x : A) → All P xs → slice_get xs n ≡ Some x → P x
+pub all_get : {A : Type 0} (P : A → Type 0) (xs : List A) (n : ℕ) (x : A) → All P xs → slice_get xs n ≡ Some x → P x
 all_get P [] n x all e = absurd (cc)
 all_get P (y ∷ ys) zero x all e = let same : y ≡ x = cc in subst P same (All-head P y ys all)
 all_get P (y ∷ ys) (suc n) x all e = all_get P ys n x (All-tail P y ys all) e

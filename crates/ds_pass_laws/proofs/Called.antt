@@ -24,6 +24,8 @@ use Rattle.ds_meaning.specs.Callees.{callee_by, callee_at, callee_numbered, call
 use Rattle.ds_meaning.specs.Frames.{blocks_in}
 use Rattle.ds_meaning.specs.Program.{is_thread_function}
 use Rattle.ds_pass.specs.Noted.{note_name, note_of, notes_behind, noted_block, noted_function, declaration, noted}
+use Rattle.ds_code_laws.proofs.Named.{place_left}
+use Rattle.ds_code_laws.proofs.Found.{get_left}
 use Rattle.ds_pass_laws.proofs.Shifted.{AllNotes, NotesAreNotes}
 
 -- NUMBERS
@@ -37,18 +39,6 @@ names_noted (f ∷ fs) = ap (λ ns. f.name ∷ ns) (names_noted fs)
 
 not_none : {A : Type 0} (x : A) → Some x ≡ None → ⊥
 not_none x e = absurd (cc)
-
-place_left : (xs ys : List Name) (x : Name) (n : ℕ) → place_of xs x ≡ Some n → place_of (xs ++ ys) x ≡ Some n
-place_left [] ys x n e = absurd (cc)
-place_left (z ∷ xs) ys x n e = by_test (place_of xs x) refl (λ k f. place_left xs ys x k f) (is_name z x) e
-  where
-    by_test : (o : Option ℕ) → place_of xs x ≡ o → ((k : ℕ) → place_of xs x ≡ Some k → place_of (xs ++ ys) x ≡ Some k)
-        → (t : Bool) → (if t then Some 0 else option_map suc (place_of xs x)) ≡ Some n
-        → (if t then Some 0 else option_map suc (place_of (xs ++ ys) x)) ≡ Some n
-    by_test o is rec true e = e
-    by_test None is rec false e =
-        let none : None ≡ Some n = ap (λ o. option_map suc o) (sym is) ∙ e in absurd (cc none)
-    by_test (Some k) is rec false e = ap (λ o. option_map suc o) (rec k is ∙ sym is) ∙ e
 
 place_right : (xs : List Name) (y x : Name) → place_of xs x ≡ None → is_name y x ≡ true
     → place_of (xs ++ y ∷ []) x ≡ Some (length xs)
@@ -77,11 +67,6 @@ note_number m none =
     ∙ place_right (names m.functions) note_name note_name none refl
 
 -- FUNCTIONS
-
-get_left : {A : Type 0} (xs ys : List A) (k : ℕ) (x : A) → slice_get xs k ≡ Some x → slice_get (xs ++ ys) k ≡ Some x
-get_left [] ys k x e = absurd (cc)
-get_left (z ∷ xs) ys zero x e = e
-get_left (z ∷ xs) ys (suc k) x e = get_left xs ys k x e
 
 -- a function of the module stands there with its notes
 pub function_kept : (m : Module) (n : ℕ) (f : Function) → slice_get m.functions n ≡ Some f

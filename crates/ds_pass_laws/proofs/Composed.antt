@@ -1,5 +1,5 @@
 -- An accepted module with its notes is the program of the module whose stores note by themselves.
-use Rattle.std.proofs.Common.{◌≡◌, ℕ, zero, suc, Bool, true, false, if◌then◌else◌, List, [], ◌∷◌, map, Option, Some, inl, inr}
+use Rattle.std.proofs.Common.{◌≡◌, ℕ, Bool, true, false, if◌then◌else◌, List, [], ◌∷◌, map, Option, Some, inl, inr}
 use Rattle.std.proofs.Common.{None, slice_get, refl, ap, sym, ◌∙◌, subst}
 use Rattle.std.specs.Prelude.{codes, unwrap_or}
 use mathlib.Core.Path.{fun_ext}
@@ -9,20 +9,19 @@ use Rattle.ds_ast.specs.declared.module.Module.{Module}
 use Rattle.ds_ast.specs.declared.module.Function.{Function}
 use Rattle.ds_ast.specs.declared.module.Block.{Block}
 use Rattle.ds_map.specs.Bounds.{Bounds}
-use Rattle.ds_plain.specs.declared.Place.{Place}
-use Rattle.ds_plain.specs.declared.Stop.{Stop}
-use Rattle.ds_plain.specs.Behaviour.{Behaviour, Program, Outcome, Stops, Stuck, Silent, asked_by, ask, told_by, tell}
+use Rattle.ds_plain.specs.Behaviour.{Behaviour, Program, Stuck}
 use Rattle.ds_plain.specs.Behaviour.{behaviour}
 use Rattle.ds_shape.specs.Sizes.{◌>>=◌}
 use Rattle.ds_shape.specs.Accepted.{Accepted}
 use Rattle.ds_meaning.specs.Frames.{Frame, State, Runs, TooLarge, first_frame, has_room, blocks_in, block_among}
 use Rattle.ds_meaning.specs.Meaning.{act_at, step}
 use Rattle.ds_meaning.specs.Program.{context, start, start_by, with_argument, main_number, program_of}
-use Rattle.ds_safe_laws.specs.Means.{MeansBy, MeansNext, Means}
+use Rattle.ds_safe_laws.specs.Means.{Means}
 use Rattle.ds_safe_laws.specs.Laws.{AcceptedMeans}
 use Rattle.ds_names.specs.Names.{Among, AreDistinct}
 use Rattle.ds_code.specs.Cells.{parameter_names}
 use Rattle.ds_code_laws.specs.Laws.{HasDistinctParameters}
+use Rattle.ds_code_laws.proofs.Begins.{silent, stops_mean}
 use Rattle.ds_code_laws.proofs.Composed.{distinct_parameters, all_agree, same_program}
 use Rattle.ds_code_laws.proofs.Simulated.{behaves_same, means_too}
 use Rattle.ds_pass.specs.Noted.{noted, noted_block, noted_function}
@@ -35,39 +34,6 @@ use Rattle.ds_pass_laws.proofs.Stepped.{step_both}
 use Rattle.ds_pass_laws.proofs.Quiet.{numbered, is_quiet}
 
 -- NOTHING MEANT
-
--- a thread whose first instruction has no meaning asks nothing
-silent : {S : Type 0} (step : S → Outcome S) (s : S) → step s ≡ Stuck → (n : ℕ) (answers : List ℕ)
-    → behaviour step n s answers ≡ Silent
-silent step s e n [] = by_fuel n
-  where
-    by_fuel : (n : ℕ) → ask step n s ≡ Silent
-    by_fuel zero = refl
-    by_fuel (suc n) = ap (λ o. asked_by (ask step n) o) e
-silent step s e n (a ∷ answers) =
-    ap (λ x. behaviour step n x answers) (by_fuel n) ∙ silent step s e n answers
-  where
-    by_fuel : (n : ℕ) → tell step n s a ≡ s
-    by_fuel zero = refl
-    by_fuel (suc n) = ap (λ o. told_by (λ x. tell step n x a) s a o) e
-
--- a thread that stops at once has a meaning
-stops_next : {S : Type 0} (step : S → Outcome S) (s : S) (place : Place) (stop : Stop) → step s ≡ Stops place stop
-    → (n : ℕ) → MeansNext step n s
-stops_next step s place stop e zero = tt
-stops_next step s place stop e (suc n) = subst (λ o. MeansBy (MeansNext step n) o) (sym e) tt
-
-stops_mean : {S : Type 0} (step : S → Outcome S) (s : S) (place : Place) (stop : Stop) → step s ≡ Stops place stop
-    → (n : ℕ) (answers : List ℕ) → Means step n s answers
-stops_mean step s place stop e n [] = stops_next step s place stop e n
-stops_mean step s place stop e n (a ∷ answers) = (
-  stops_next step s place stop e n,
-  subst (λ t. Means step n t answers) (sym (stays n)) (stops_mean step s place stop e n answers),
-)
-  where
-    stays : (n : ℕ) → tell step n s a ≡ s
-    stays zero = refl
-    stays (suc n) = ap (λ o. told_by (λ x. tell step n x a) s a o) e
 
 -- an instruction of no block has no meaning
 stuck : (noting : Bool) (lim : Bounds) (m : Module) (thread : ℕ) (fr : Frame)

@@ -1,5 +1,5 @@
 -- No function of an accepted module is named ds_note, and no instruction calls it.
-use Rattle.std.proofs.Common.{◌≡◌, ℕ, zero, suc, ◌+◌, Bool, true, false, if◌then◌else◌, List, [], ◌∷◌, ◌++◌, ◌⊎◌, inl}
+use Rattle.std.proofs.Common.{◌≡◌, ℕ, suc, ◌+◌, Bool, true, false, if◌then◌else◌, List, [], ◌∷◌, ◌++◌, ◌⊎◌, inl}
 use Rattle.std.proofs.Common.{inr}
 use Rattle.std.proofs.Common.{length, Option, Some, None, slice_get, refl, ap, sym, ◌∙◌, subst}
 use Rattle.std.specs.Prelude.{All, codes}
@@ -25,6 +25,7 @@ use Rattle.ds_shape.specs.Accepted.{IsReserved, IsGoodExternal, IsGoodInstr, IsG
 use Rattle.ds_meaning.specs.Callees.{Callee, Defined, Declared, Unknown, External, externals, external_among, is_note}
 use Rattle.ds_meaning.specs.Callees.{callee_by, callee_at, callee_numbered, callee_of, is_ds_note}
 use Rattle.ds_meaning.specs.Places.{is_note_call}
+use Rattle.ds_code_laws.proofs.Composed.{all_get}
 use Rattle.ds_code_laws.proofs.Named.{names_decide, stands_there, among_stands}
 use Rattle.ds_pass.specs.Noted.{note_name, noted}
 use Rattle.ds_pass_laws.proofs.Shifted.{NoNotes}
@@ -67,11 +68,6 @@ among_free (e ∷ es) name known free =
     by_test rec (inr same) true is =
         absurd (free (reserved name (sym ((names_decide (Text e.0) name).0 is) ∙ same)))
     by_test rec k false is = rec
-
-all_get : {A : Type 0} (P : A → Type 0) (xs : List A) (n : ℕ) (x : A) → All P xs → slice_get xs n ≡ Some x → P x
-all_get P [] n x all e = absurd (cc)
-all_get P (y ∷ ys) zero x all e = let same : y ≡ x = cc in subst P same (All-head P y ys all)
-all_get P (y ∷ ys) (suc n) x all e = all_get P ys n x (All-tail P y ys all) e
 
 among_in : (before after : List Function) (f : Function) → Among f.name (names (before ++ f ∷ after))
 among_in [] after f = inl refl
