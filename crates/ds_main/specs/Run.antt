@@ -37,8 +37,8 @@ pub record IsRunOfModule (cues : List Cue) (seed : ℕ) (lim : Bounds) (m : Modu
   pub fuel : (t : ℕ) → t < 16 → HasEnded (stop_in run.stops t)
       → EndsByFuel (read_program lim m) lim t (trace_of run.traces t) (stop_in run.stops t)
 
--- The run is one of this module by no cues and this seed within these limits. The module is the accepted one of the bytes that the
--- source held, where it tells them.
+-- The run is one of this module by no cues and this seed within these limits. The module is the accepted one of the
+-- bytes that the source held, where it tells them.
 pub record IsRunOfInput (left : Option (List ℕ)) (seed : ℕ) (lim : Bounds) (m : Module) (run : RunRecord) : Type 0 where
   pub of_input : IsModuleOfInput left m
   pub run_of : IsRunOfModule [] seed lim m run

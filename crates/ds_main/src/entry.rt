@@ -63,15 +63,16 @@ fn answer<S: Source, K: Sink>(
 /// All three jobs read the source to its end, unless it fails or holds too much, and take its module only where that
 /// is accepted: it keeps all rules.
 /// `check` writes that to the sink, with how many functions the module defines and how many instructions they have.
-/// `instrument` writes the module with a note behind each store of a pointer. `replay` runs it with up to 16 threads, each step by the
-/// schedule that `--seed` gives, with a heap of so many pages as `--pages` says, and at most so many units for each
-/// thread as `--fuel` says, and writes the report of the run. No thread of the system is started, and no pace is called.
+/// `instrument` writes the module with a note behind each store of a pointer. `replay` runs it, without notes, with up
+/// to 16 threads, each step by the schedule that `--seed` gives, with a heap of so many pages as `--pages` says, and at
+/// most so many units for each thread as `--fuel` says, and writes the report of the run. No thread of the system is
+/// started, and no pace is called.
 ///
 /// The status is 0 where the job was done; 9, 7, 3 or 8 where it was and main ran out of fuel, a thread met a full
 /// table, a thread trapped, or another thread ran out of fuel, of which the first decides; 2 where no job has these
-/// words, 4 where the source failed, 1 where the source held too many bytes or no accepted module, 5 where
-/// the sink failed, and 6 where memory ran out. With 1, 2 and 4 the line of the fault was written, and nothing was run.
-/// With 5 the sink has taken a front of what was due, and with 6 nothing.
+/// words, 4 where the source failed, 1 where the source held too many bytes or no accepted module, 5 where the sink
+/// failed, and 6 where memory ran out. With 1, 2 and 4 the line of the fault was written, and nothing was run. With 5
+/// the sink has taken a front of what was due, and with 6 nothing.
 pub fn dangsan_main<R: Threads + Sync, S: Source, K: Sink, P: Pace>(
     rt: &R,
     alloc: Global,
@@ -90,13 +91,13 @@ pub fn dangsan_main<R: Threads + Sync, S: Source, K: Sink, P: Pace>(
     // of the plain machine's run, in whichever legal order of the recorded steps.
     ensures ran { (seed : ℕ) (lim : Bounds) → IsJob (texts words.now) (Job.Replay seed lim) → IsRunStatus result.status
         → (m : Module) × IsRunOfInput (S.left source.old) seed lim m result.run }
-    ensures reported { (seed : ℕ) (lim : Bounds) → IsJob (texts words.now) (Job.Replay seed lim) → IsRunStatus result.status
-        → (m : Module) × IsRunOfInput (S.left source.old) seed lim m result.run
+    ensures reported { (seed : ℕ) (lim : Bounds) → IsJob (texts words.now) (Job.Replay seed lim)
+        → IsRunStatus result.status → (m : Module) × IsRunOfInput (S.left source.old) seed lim m result.run
         × (text : List ℕ) × IsReport (function_names m) result.run.stops result.run.traces false text
         × IsReportOfEachOrder lim m result.run text
         × Takes (K.taken sink.old) text (K.taken sink.new) }
-    ensures run_status { (seed : ℕ) (lim : Bounds) → IsJob (texts words.now) (Job.Replay seed lim) → IsRunStatus result.status
-        → result.status ≡ run_status result.run.stops }
+    ensures run_status { (seed : ℕ) (lim : Bounds) → IsJob (texts words.now) (Job.Replay seed lim)
+        → IsRunStatus result.status → result.status ≡ run_status result.run.stops }
     // With status 0 of `check` and `instrument` the input spells an accepted module, and the sink took the whole text
     // due. 3, 7, 8 and 9 are of `replay` alone.
     ensures checked { IsJob (texts words.now) Job.Check → result.status ≡ 0

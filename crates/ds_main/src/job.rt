@@ -166,8 +166,8 @@ fn is_only_word(words: &[String], word: &[u8]) -> bool
 }
 
 /// The job that has these words, which stand behind the program's name: `check` or `instrument` alone, or `replay` and
-/// then options, `--seed N` with N from 0 to 2^64 - 1, `--pages N` with N from 1 to 4,096 and `--fuel N` with N from 1 to
-/// 2,000,000, each at most once, in any order. N is 1 to 20 decimal digits without a sign.
+/// then options, `--seed N` with N from 0 to 2^64 - 1, `--pages N` with N from 1 to 4,096 and `--fuel N` with N from 1
+/// to 2,000,000, each at most once, in any order. N is 1 to 20 decimal digits without a sign.
 ///
 /// # Errors
 ///
