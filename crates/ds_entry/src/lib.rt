@@ -1,15 +1,19 @@
-//! The word of a log entry, which holds up to three locations of one group.
+//! The words of a log: its header, and its entries, each of which holds up to three locations of one group.
 //!
-//! Bits 48 and 49 are the count of the locations that it holds, bits 24 to 47 their group, which is a location divided
-//! by 256, and bits 0 to 7, 8 to 15 and 16 to 23 their offsets in the group, in the order in which they were added. The
-//! word 0 is the empty entry.
+//! Of an entry bits 48 and 49 are the count of the locations that it holds, bits 24 to 47 their group, which is a
+//! location divided by 256, and bits 0 to 7, 8 to 15 and 16 to 23 their offsets in the group, in the order in which
+//! they were added. The word 0 is the empty entry.
+//!
+//! The header of a log is the word that says which life its entries are about, and how many of them are used.
 #![tactic(auto)]
 
 ghost use Rattle.std.specs.Prelude.{◌≡◌, ℕ, ◌^◌, ◌<◌, ◌≤◌, ◌↔◌, [], ◌∷◌, Contains, IsNone, IsTrue, slice_get};
 ghost use Rattle.ds_entry.specs.Entry.{count_of, location_at, locations_of, is_held, entry_of};
 
+mod header;
 mod laws;
 
+pub use header::{Header, header_word, read_header};
 pub use laws::{empty_holds_none, entries_are_apart, entries_hold_theirs};
 
 /// The number of locations of a group.
@@ -91,5 +95,7 @@ mod tests {
         assert!(rt; !holds(0x0002_0000_012e_2d2c, 302));
         assert_eq!(rt; unpack(0x0002_0000_0100_2d2c, 1), Some(301));
         assert_eq!(rt; unpack(0x0002_0000_0100_2d2c, 2), None);
+        assert_eq!(rt; header_word(2, 3, 0), 0x0000_0002_0300_0000);
+        assert_eq!(rt; read_header(0x0000_0002_0300_0000).used, 3);
     }
 }
