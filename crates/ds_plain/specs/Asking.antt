@@ -2,13 +2,14 @@
 use Rattle.std.specs.Prelude.{◌≡◌, ℕ, Bool, true, not, List}
 use Rattle.ds_map.specs.Bounds.{Bounds}
 use Rattle.ds_plain.specs.declared.Position.{Position}
-use Rattle.ds_plain.specs.declared.Position.TheVariants.{Start, Access, Malloc, Free, Spawn, Join, DrawPrint, StoreEnded}
-use Rattle.ds_plain.specs.declared.Position.TheVariants.{Over, NoRow}
+use Rattle.ds_plain.specs.declared.Position.TheVariants.{Start, Access, Malloc, Note, Free, Spawn, Join}
+use Rattle.ds_plain.specs.declared.Position.TheVariants.{DrawPrint, StoreEnded, Over, NoRow}
 use Rattle.ds_plain.specs.Behaviour.{Asked, Asks, Silent, Behaviour, Program}
 use Rattle.ds_plain.specs.Table.{position_of, is_over}
 use Rattle.ds_plain.specs.Spawning.{IsSpawnAt}
 use Rattle.ds_plain.specs.Joining.{IsJoinAt}
 use Rattle.ds_plain.specs.Accessing.{IsAccessAt}
+use Rattle.ds_plain.specs.Noting.{IsNoteAt}
 use Rattle.ds_plain.specs.Reached.{IsAllocAt, AreCursors, IsFreeAt}
 
 -- what is asked has a row, wherever the thread looks for blocks; a thread that asks nothing ends for want of fuel
@@ -29,6 +30,7 @@ abbrev pub IsWithin : Bounds → Position → Type 0
 IsWithin lim (Start at) = Unit {0}
 IsWithin lim (Access at) = IsAccessAt lim at
 IsWithin lim (Malloc at) = IsAllocAt lim at
+IsWithin lim (Note at) = IsNoteAt lim at
 IsWithin lim (Free at) = IsFreeAt lim at
 IsWithin lim (Spawn at) = IsSpawnAt lim at
 IsWithin lim (Join at) = IsJoinAt at

@@ -53,10 +53,11 @@ stop_in stops t = slice_index_or stops t Idle
 
 -- RUNS OF A PROGRAM
 
--- the setting of a run whose threads ended so: those with the stop Fuel ended for want of it
+-- The setting of a run whose threads ended so: those with the stop Fuel ended for want of it. Frees are taken at their
+-- word.
 abbrev pub setting_of : Program → Bounds → List Stop → Setting
 setting_of program lim stops =
-    record { program = program; lim = lim; out_of_fuel = λ t. is_fuel (stop_in stops t); weak = false }
+    record { program = program; lim = lim; out_of_fuel = λ t. is_fuel (stop_in stops t); weak = true }
 
 -- the words of the table after these steps
 abbrev pub words_behind : Program → Bounds → History → List ℕ

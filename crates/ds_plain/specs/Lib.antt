@@ -9,6 +9,8 @@ pub mod Joining
 pub mod Accessing
 pub mod Searching
 pub mod Freeing
+pub mod Listing
+pub mod Noting
 pub mod Table
 pub mod Thread
 pub mod History

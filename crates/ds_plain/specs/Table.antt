@@ -17,16 +17,18 @@ use Rattle.ds_plain.specs.declared.JoinAt.TheVariants.{LoadGiven}
 use Rattle.ds_plain.specs.declared.Change.TheVariants.{Put, Combine, Replace}
 use Rattle.ds_plain.specs.declared.AccessAt.TheVariants.{LoadWord, StoreWord, CombineWord, ReplaceWord}
 use Rattle.ds_plain.specs.declared.AllocAt.TheVariants as allocs
+use Rattle.ds_plain.specs.declared.NoteAt.TheVariants as notes
 use Rattle.ds_plain.specs.declared.FreeAt.TheVariants as frees
 use Rattle.ds_plain.specs.declared.Position.{Position}
-use Rattle.ds_plain.specs.declared.Position.TheVariants.{Start, Access, Malloc, Free, Spawn, Join, DrawPrint, StoreEnded}
-use Rattle.ds_plain.specs.declared.Position.TheVariants.{Over, NoRow}
+use Rattle.ds_plain.specs.declared.Position.TheVariants.{Start, Access, Malloc, Note, Free, Spawn, Join}
+use Rattle.ds_plain.specs.declared.Position.TheVariants.{DrawPrint, StoreEnded, Over, NoRow}
 use Rattle.ds_plain.specs.Operations.{load_of, store_of}
 use Rattle.ds_plain.specs.Starting.{start_word, start_op, start_row, start_event}
 use Rattle.ds_plain.specs.Spawning.{spawn_op, spawn_row, spawn_event}
 use Rattle.ds_plain.specs.Joining.{join_op, join_row, join_event}
 use Rattle.ds_plain.specs.Accessing.{access_op, access_row, access_event, changing_at}
 use Rattle.ds_plain.specs.Searching.{search_from, alloc_op, alloc_row, alloc_event}
+use Rattle.ds_plain.specs.Noting.{note_op, note_row, note_event, is_notable}
 use Rattle.ds_plain.specs.Freeing.{free_op, free_row, free_event, is_freeable}
 
 -- the word that counts the prints
@@ -40,6 +42,7 @@ abbrev pub op_at : Bounds → ℕ → Position → WordOp
 op_at lim t (Start at) = start_op t at
 op_at lim t (Access at) = access_op lim at
 op_at lim t (Malloc at) = alloc_op lim at
+op_at lim t (Note at) = note_op lim t at
 op_at lim t (Free at) = free_op lim at
 op_at lim t (Spawn at) = spawn_op lim at
 op_at lim t (Join at) = join_op at
@@ -55,6 +58,7 @@ abbrev pub row_at : Position → ℕ
 row_at (Start at) = start_row at
 row_at (Access at) = access_row at
 row_at (Malloc at) = alloc_row at
+row_at (Note at) = note_row at
 row_at (Free at) = free_row at
 row_at (Spawn at) = spawn_row at
 row_at (Join at) = join_row at
@@ -70,6 +74,7 @@ abbrev pub event_at : Bounds → ℕ → Position → ℕ → Event
 event_at lim t (Start at) old = start_event t at old
 event_at lim t (Access at) old = access_event at old
 event_at lim t (Malloc at) old = alloc_event lim at old
+event_at lim t (Note at) old = note_event lim at old
 event_at lim t (Free at) old = free_event at old
 event_at lim t (Spawn at) old = spawn_event at old
 event_at lim t (Join at) old = join_event t at old
@@ -103,6 +108,10 @@ looking_for cursors (Some class) = Malloc (allocs.LoadPage (search_from class (s
 abbrev pub freeing_at : Bounds → ℕ → Position
 freeing_at lim address = if is_freeable lim address then Free (frees.LoadPage address) else NoRow
 
+-- where a thread begins to note a value; nothing else than one of the heap, at a location, is asked
+abbrev pub noting_at : Bounds → (loc value : ℕ) → Position
+noting_at lim loc value = if is_notable lim loc value then Note (notes.LoadPage loc value) else NoRow
+
 -- the first position of a request of a thread that looks for blocks from these places on, by size class
 abbrev pub position_of : Bounds → (cursors : List ℕ) → Request → Position
 position_of lim cursors (requests.Load access) = Access (LoadWord access.loc)
@@ -114,7 +123,7 @@ position_of lim cursors (requests.Cas access expected new) =
     Access (changing_at access (ReplaceWord access.loc expected new) (Replace expected new))
 position_of lim cursors (requests.Malloc bytes) = looking_for cursors (class_of bytes)
 position_of lim cursors (requests.Free address) = freeing_at lim address
-position_of lim cursors (requests.Note loc value) = NoRow
+position_of lim cursors (requests.Note loc value) = noting_at lim loc value
 position_of lim cursors (requests.Print value) = DrawPrint value
 position_of lim cursors (requests.Spawn loc function arg) = Spawn (DrawThread loc function arg)
 position_of lim cursors (requests.Join number) = Join (LoadGiven number)
@@ -125,6 +134,7 @@ abbrev pub is_over : Position → Bool
 is_over (Start at) = false
 is_over (Access at) = false
 is_over (Malloc at) = false
+is_over (Note at) = false
 is_over (Free at) = false
 is_over (Spawn at) = false
 is_over (Join at) = false

@@ -7,15 +7,15 @@ use Rattle.ds_step.specs.declared.FreeTrap.{FreeTrap}
 use Rattle.ds_step.specs.declared.FreeTrap.TheVariants as traps
 use Rattle.ds_step.specs.declared.Step.{Step}
 use Rattle.ds_plain.specs.declared.Stop.{Stop}
-use Rattle.ds_plain.specs.declared.Stop.TheVariants.{Idle, Running, Fuel}
+use Rattle.ds_plain.specs.declared.Stop.TheVariants.{Idle, Running, Full, Fuel}
 use Rattle.ds_plain.specs.declared.StartAt.TheVariants.{LoadStart}
 use Rattle.ds_plain.specs.declared.TrapKind.{TrapKind}
 use Rattle.ds_plain.specs.declared.TrapKind.TheVariants.{BadFree, DoubleFree, BadJoin}
 use Rattle.ds_plain.specs.declared.FreeAt.{FreeAt}
 use Rattle.ds_plain.specs.declared.FreeAt.TheVariants as frees
 use Rattle.ds_plain.specs.declared.Position.{Position}
-use Rattle.ds_plain.specs.declared.Position.TheVariants.{Start, Access, Malloc, Free, Spawn, Join, DrawPrint, StoreEnded}
-use Rattle.ds_plain.specs.declared.Position.TheVariants.{Over, NoRow}
+use Rattle.ds_plain.specs.declared.Position.TheVariants.{Start, Access, Malloc, Note, Free, Spawn, Join}
+use Rattle.ds_plain.specs.declared.Position.TheVariants.{DrawPrint, StoreEnded, Over, NoRow}
 use Rattle.ds_plain.specs.Behaviour.{Asked, Asks, Silent, place_in_text, Behaviour, told, silent, Program}
 use Rattle.ds_plain.specs.Plain.{trap_stop}
 use Rattle.ds_plain.specs.Starting.{StartNext, StartsOn, Begins, start_next}
@@ -23,6 +23,7 @@ use Rattle.ds_plain.specs.Spawning.{SpawnNext, SpawnsOn, SpawnTells, spawn_next}
 use Rattle.ds_plain.specs.Joining.{JoinNext, JoinsOn, Joined, FailsJoin, join_next}
 use Rattle.ds_plain.specs.Accessing.{AccessNext, AccessesOn, Tells, access_next}
 use Rattle.ds_plain.specs.Searching.{AllocNext, Looks, Takes, TakesNone, place_behind, alloc_next}
+use Rattle.ds_plain.specs.Noting.{NoteNext, NotesOn, HasNoted, HasSkipped, FailsNote, note_next}
 use Rattle.ds_plain.specs.Freeing.{FreeNext, FreesOn, Freed, FailsFree, free_next}
 use Rattle.ds_plain.specs.Table.{step_at, position_of, is_over}
 
@@ -53,6 +54,7 @@ abbrev pub standing : Bounds → (cursors : List ℕ) → Behaviour → ℕ → 
 standing lim cursors rest units began (Start at) = paying lim cursors rest units began (Start at)
 standing lim cursors rest units began (Access at) = paying lim cursors rest units began (Access at)
 standing lim cursors rest units began (Malloc at) = paying lim cursors rest units began (Malloc at)
+standing lim cursors rest units began (Note at) = paying lim cursors rest units began (Note at)
 standing lim cursors rest units began (Free at) = paying lim cursors rest units began (Free at)
 standing lim cursors rest units began (Spawn at) = paying lim cursors rest units began (Spawn at)
 standing lim cursors rest units began (Join at) = paying lim cursors rest units began (Join at)
@@ -98,6 +100,14 @@ moved_from_malloc lim a (Takes class place life) =
     (told a.rest (block_start place class))
 moved_from_malloc lim a TakesNone = going_on lim a.cursors (a.units + 1) (told a.rest 0)
 
+-- a note goes on, is done, or stops its thread by a full table
+abbrev pub moved_from_note : Bounds → Thread → NoteNext → Thread
+moved_from_note lim a (NotesOn at) = standing lim a.cursors a.rest (a.units + 1) a.began (Note at)
+moved_from_note lim a HasNoted = going_on lim a.cursors (a.units + 1) (told a.rest 0)
+moved_from_note lim a HasSkipped = going_on lim a.cursors (a.units + 1) (told a.rest 0)
+moved_from_note lim a (FailsNote what) =
+    standing lim a.cursors a.rest (a.units + 1) a.began (StoreEnded (Full (place_in_text (a.rest [])) what))
+
 -- the address that a free is asked for; it is not needed any more once the block is taken
 abbrev pub freed_address : FreeAt → ℕ
 freed_address (frees.LoadPage address) = address
@@ -135,6 +145,7 @@ abbrev pub moved_from : Program → Bounds → ℕ → Thread → Position → �
 moved_from program lim t a (Start at) old = moved_from_start program lim t a (start_next program t at old)
 moved_from program lim t a (Access at) old = moved_from_access lim a (access_next at old)
 moved_from program lim t a (Malloc at) old = moved_from_malloc lim a (alloc_next lim at old)
+moved_from program lim t a (Note at) old = moved_from_note lim a (note_next lim at old)
 moved_from program lim t a (Free at) old = moved_from_free lim a (freed_address at) (free_next at old)
 moved_from program lim t a (Spawn at) old = moved_from_spawn lim a (spawn_next at old)
 moved_from program lim t a (Join at) old = moved_from_join lim a (join_next t at old)
@@ -168,6 +179,7 @@ abbrev pub stop_at : Bool → Position → Stop
 stop_at began (Start at) = Idle
 stop_at began (Access at) = Running
 stop_at began (Malloc at) = Running
+stop_at began (Note at) = Running
 stop_at began (Free at) = Running
 stop_at began (Spawn at) = Running
 stop_at began (Join at) = Running

@@ -1,5 +1,6 @@
 -- Who has a turn: the schedule of a replay, and the rounds of a run on threads. What each says next can be computed.
-use Rattle.std.specs.Prelude.{◌≡◌, ℕ, zero, suc, ◌+◌, ◌-◌, ◌*◌, ◌/◌, ◌%◌, ◌^◌, ◌<◌, Bool, true, false, not, ◌&&◌, ◌||◌, ◌==◌}
+use Rattle.std.specs.Prelude.{◌≡◌, ℕ, zero, suc, ◌+◌, ◌-◌, ◌*◌, ◌/◌, ◌%◌, ◌^◌, ◌<◌, Bool, true, false, not, ◌&&◌}
+use Rattle.std.specs.Prelude.{◌||◌, ◌==◌}
 use Rattle.std.specs.Prelude.{nat_lt, nat_le, min, if◌then◌else◌, List, [], ◌∷◌, length, Option, Some, None, slice_get}
 use Rattle.std.specs.List.{filter, range_with_len}
 use Rattle.ds_map.specs.Bounds.{Bounds}
@@ -8,8 +9,8 @@ use Rattle.ds_step.specs.declared.Event.TheVariants as events
 use Rattle.ds_step.specs.declared.Step.{Step}
 use Rattle.ds_plain.specs.declared.Cue.{Cue}
 use Rattle.ds_plain.specs.declared.Position.{Position}
-use Rattle.ds_plain.specs.declared.Position.TheVariants.{Start, Access, Malloc, Free, Spawn, Join, DrawPrint, StoreEnded}
-use Rattle.ds_plain.specs.declared.Position.TheVariants.{Over, NoRow}
+use Rattle.ds_plain.specs.declared.Position.TheVariants.{Start, Access, Malloc, Note, Free, Spawn, Join}
+use Rattle.ds_plain.specs.declared.Position.TheVariants.{DrawPrint, StoreEnded, Over, NoRow}
 use Rattle.ds_plain.specs.Behaviour.{Program}
 use Rattle.ds_plain.specs.State.{replaced}
 use Rattle.ds_plain.specs.Thread.{Thread, first_thread, moved}
@@ -178,6 +179,7 @@ abbrev pub is_ended : Position → Bool
 is_ended (Start at) = false
 is_ended (Access at) = false
 is_ended (Malloc at) = false
+is_ended (Note at) = false
 is_ended (Free at) = false
 is_ended (Spawn at) = false
 is_ended (Join at) = false
@@ -187,8 +189,8 @@ is_ended (Over stop) = true
 is_ended NoRow = false
 
 module _ (program : Program) (lim : Bounds) (t : ℕ) where
-  -- behind the first step that ends the round of a thread, which had spent so much before the round; none where no step
-  -- does
+  -- behind the first step that ends the round of a thread, which had spent so much before the round; none where no
+  -- step does
   abbrev pub behind_round : (before : ℕ) → Thread → List Step → Option Remaining
   behind_round before a [] = None
   behind_round before a (s ∷ ss) =
@@ -224,6 +226,7 @@ IsLeft P (Some rest) = P rest
 pub record IsInRounds (program : Program) (lim : Bounds) (n : ℕ) (traces : List (List Step)) : Type 0 where
   pub cut : (t : ℕ) → t < 16
       → IsLeft (λ rest. rest.steps ≡ []) (left_behind program lim t n (trace_of traces t))
-  pub main_ended : IsLeft (λ rest. is_ended rest.thread.position ≡ true) (left_behind program lim 0 n (trace_of traces 0))
+  pub main_ended : IsLeft (λ rest. is_ended rest.thread.position ≡ true)
+      (left_behind program lim 0 n (trace_of traces 0))
   pub main_last : (k : ℕ) → n ≡ suc k
       → IsLeft (λ rest. is_ended rest.thread.position ≡ false) (left_behind program lim 0 k (trace_of traces 0))

@@ -259,6 +259,65 @@ pub enum AllocAt {
     },
 }
 
+/// Where a thread stands that looks for its own log of the block at a place, which it found live in this life.
+#[derive(Clone, Copy, Debug, PartialEq, Eq)]
+pub enum ListAt {
+    /// It loads the home word, which says which log it has for the place.
+    LoadHome { place: u32, life: u32 },
+    /// It draws a log, since it has none.
+    DrawLog { place: u32, life: u32 },
+    /// It stores the header of the log that it drew.
+    StoreHeader { place: u32, life: u32, log: u32 },
+    /// It stores the number of the log that it drew to the home word.
+    StoreHome { place: u32, life: u32, log: u32 },
+    /// It loads the header of its log.
+    LoadHeader { place: u32, life: u32, log: u32 },
+}
+
+/// Where a thread stands that notes that a pointer was stored at a location.
+#[derive(Clone, Copy, Debug, PartialEq, Eq)]
+pub enum NoteAt {
+    /// It loads the word of the page of the pointer.
+    LoadPage {
+        loc: u32,
+        value: u64,
+    },
+    /// It loads the word of the block that holds the pointer, which has this place and starts at this address.
+    LoadBlock {
+        loc: u32,
+        place: u32,
+        start: u64,
+    },
+    /// It looks for its own log of the block, which it found live.
+    Seek {
+        loc: u32,
+        at: ListAt,
+    },
+    /// It begins its log anew for the life in which it found the block.
+    StoreLife {
+        loc: u32,
+        place: u32,
+        life: u32,
+        log: u32,
+    },
+    /// It stores the location to the first entry that is not used.
+    StoreEntry {
+        loc: u32,
+        place: u32,
+        life: u32,
+        log: u32,
+        used: u32,
+    },
+    /// It counts this entry as used.
+    CountEntry {
+        loc: u32,
+        place: u32,
+        life: u32,
+        log: u32,
+        used: u32,
+    },
+}
+
 /// Where a thread stands that frees the block at an address.
 #[derive(Clone, Copy, Debug, PartialEq, Eq)]
 pub enum FreeAt {
@@ -281,6 +340,8 @@ pub enum Position {
     Access(AccessAt),
     /// It takes a block.
     Malloc(AllocAt),
+    /// It notes that a pointer was stored.
+    Note(NoteAt),
     /// It frees a block.
     Free(FreeAt),
     /// It starts a thread.
@@ -297,8 +358,8 @@ pub enum Position {
     NoRow,
 }
 
-/// What a schedule begins with: a thread has turns until one makes a row, must wait, or is its last. A cue for a thread
-/// that was not given out, or that has ended, is passed over.
+/// What a schedule begins with: a thread has turns until one makes a row, must wait, or is its last. A cue for a
+/// thread that was not given out, or that has ended, is passed over.
 #[derive(Clone, Copy, Debug, PartialEq, Eq)]
 pub struct Cue {
     /// The number of the thread.
