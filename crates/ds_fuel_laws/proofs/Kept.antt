@@ -8,11 +8,13 @@ use Rattle.ds_plain.specs.declared.Stop.{Stop}
 use Rattle.ds_plain.specs.declared.Stop.TheVariants.{Idle, Running, Returned, Trap, Full, Fuel}
 use Rattle.ds_plain.specs.declared.Request.{Request}
 use Rattle.ds_plain.specs.declared.Request.TheVariants as requests
+use Rattle.ds_plain.specs.declared.NoteAt.TheVariants as notes
 use Rattle.ds_plain.specs.declared.FreeAt.TheVariants as frees
 use Rattle.ds_plain.specs.declared.Position.{Position}
-use Rattle.ds_plain.specs.declared.Position.TheVariants.{Start, Access, Malloc, Free, Spawn, Join, DrawPrint, StoreEnded}
-use Rattle.ds_plain.specs.declared.Position.TheVariants.{Over, NoRow}
+use Rattle.ds_plain.specs.declared.Position.TheVariants.{Start, Access, Malloc, Note, Free, Spawn, Join}
+use Rattle.ds_plain.specs.declared.Position.TheVariants.{DrawPrint, StoreEnded, Over, NoRow}
 use Rattle.ds_plain.specs.Behaviour.{Asked, Asks, Silent, Behaviour}
+use Rattle.ds_plain.specs.Noting.{is_notable}
 use Rattle.ds_plain.specs.Freeing.{is_freeable}
 use Rattle.ds_plain.specs.Table.{end_by, looking_for, position_of}
 use Rattle.ds_plain.specs.Thread.{Thread, paying, standing, arriving, going_on}
@@ -43,6 +45,7 @@ abbrev pub Keeps : Bounds → Account → (units : ℕ) → Position → Type 0
 Keeps lim account units (Start at) = Due lim account units
 Keeps lim account units (Access at) = Due lim account units
 Keeps lim account units (Malloc at) = Due lim account units
+Keeps lim account units (Note at) = Due lim account units
 Keeps lim account units (Free at) = Due lim account units
 Keeps lim account units (Spawn at) = Due lim account units
 Keeps lim account units (Join at) = Due lim account units
@@ -61,6 +64,7 @@ abbrev pub MayAsk : (cost : ℕ) → Position → Type 0
 MayAsk cost (Start at) = cost ≡ 1
 MayAsk cost (Access at) = cost ≡ 1
 MayAsk cost (Malloc at) = cost ≡ 1
+MayAsk cost (Note at) = cost ≡ 1
 MayAsk cost (Free at) = cost ≡ 1
 MayAsk cost (Spawn at) = cost ≡ 1
 MayAsk cost (Join at) = cost ≡ 1
@@ -90,7 +94,8 @@ asked_for lim cursors (requests.Cas access expected new) = refl
 asked_for lim cursors (requests.Malloc bytes) = looking_asked cursors (class_of bytes)
 asked_for lim cursors (requests.Free address) =
     of_test (MayAsk 1) (is_freeable lim address) (Free (frees.LoadPage address)) NoRow (λ e. refl) (λ e. refl)
-asked_for lim cursors (requests.Note loc value) = refl
+asked_for lim cursors (requests.Note loc value) =
+    of_test (MayAsk 1) (is_notable lim loc value) (Note (notes.LoadPage loc value)) NoRow (λ e. refl) (λ e. refl)
 asked_for lim cursors (requests.Print value) = refl
 asked_for lim cursors (requests.Spawn loc function arg) = refl
 asked_for lim cursors (requests.Join number) = refl
@@ -109,7 +114,7 @@ module _ (lim : Bounds) (cursors : List ℕ) (rest : Behaviour) (account : Accou
     within = omega (arith, all);
   }
 
-  -- a thread that ends with a stop that it asked for, or that a free failed with
+  -- a thread that ends with a stop that it asked for, or with which what it asked for failed
   stopping : (units : ℕ) (stop : Stop) (cost : ℕ) → (stop ≡ Fuel → ⊥) → price_of account.next ≡ Some cost
       → units ≡ account.paid + cost → units ≤ lim.fuel → Ends lim account units stop
   stopping units stop cost asked priced sum le = record {
@@ -149,6 +154,8 @@ module _ (lim : Bounds) (cursors : List ℕ) (rest : Behaviour) (account : Accou
       paying_keeps units began (Access at) (begun + cost) priced (omega (arith, asked, is)) le (λ due. due)
   standing_keeps begun cost units began (Malloc at) asked priced is le =
       paying_keeps units began (Malloc at) (begun + cost) priced (omega (arith, asked, is)) le (λ due. due)
+  standing_keeps begun cost units began (Note at) asked priced is le =
+      paying_keeps units began (Note at) (begun + cost) priced (omega (arith, asked, is)) le (λ due. due)
   standing_keeps begun cost units began (Free at) asked priced is le =
       paying_keeps units began (Free at) (begun + cost) priced (omega (arith, asked, is)) le (λ due. due)
   standing_keeps begun cost units began (Spawn at) asked priced is le =

@@ -5,11 +5,12 @@ use Rattle.ds_map.specs.Bounds.{Bounds}
 use Rattle.ds_map.specs.Blocks.{block_start}
 use Rattle.ds_step.specs.declared.Step.{Step}
 use Rattle.ds_plain.specs.declared.Stop.{Stop}
+use Rattle.ds_plain.specs.declared.Stop.TheVariants.{Full}
 use Rattle.ds_plain.specs.declared.StartAt.TheVariants.{LoadStart}
 use Rattle.ds_plain.specs.declared.Position.{Position}
 use Rattle.ds_plain.specs.declared.TrapKind.TheVariants.{BadJoin}
-use Rattle.ds_plain.specs.declared.Position.TheVariants.{Start, Access, Malloc, Free, Spawn, Join, DrawPrint, StoreEnded}
-use Rattle.ds_plain.specs.declared.Position.TheVariants.{Over, NoRow}
+use Rattle.ds_plain.specs.declared.Position.TheVariants.{Start, Access, Malloc, Note, Free, Spawn, Join}
+use Rattle.ds_plain.specs.declared.Position.TheVariants.{DrawPrint, StoreEnded, Over, NoRow}
 use Rattle.ds_plain.specs.Behaviour.{told, place_in_text, silent, Program}
 use Rattle.ds_plain.specs.Plain.{trap_stop}
 use Rattle.ds_plain.specs.Starting.{StartNext, StartsOn, Begins, start_next}
@@ -17,15 +18,17 @@ use Rattle.ds_plain.specs.Spawning.{SpawnNext, SpawnsOn, SpawnTells, spawn_next}
 use Rattle.ds_plain.specs.Joining.{JoinNext, JoinsOn, Joined, FailsJoin, join_next}
 use Rattle.ds_plain.specs.Accessing.{AccessNext, AccessesOn, Tells, access_next}
 use Rattle.ds_plain.specs.Searching.{AllocNext, Looks, Takes, TakesNone, place_behind, alloc_next}
+use Rattle.ds_plain.specs.Noting.{NoteNext, NotesOn, HasNoted, HasSkipped, FailsNote, note_next}
 use Rattle.ds_plain.specs.Freeing.{FreeNext, FreesOn, Freed, FailsFree, free_next}
 use Rattle.ds_plain.specs.Table.{is_over}
 use Rattle.ds_plain.specs.Thread.{Thread, going_on, first_thread, moved_from, moved_from_access}
 use Rattle.ds_plain.specs.Thread.{moved_from_start, moved_from_spawn, moved_from_join, moved_from_malloc, trap_kind}
-use Rattle.ds_plain.specs.Thread.{moved_from_free, freed_address, first_cursors, Follows, thread_after, stop_at}
-use Rattle.ds_plain.specs.Thread.{stop_of}
+use Rattle.ds_plain.specs.Thread.{moved_from_note, moved_from_free, freed_address, first_cursors, Follows}
+use Rattle.ds_plain.specs.Thread.{thread_after, stop_at, stop_of}
 use Rattle.ds_plain.specs.Explained.{HasEnded}
 use Rattle.ds_fuel_laws.specs.Fuel.{Next, StepsOn, price_of, next_from_start, next_from_access}
-use Rattle.ds_fuel_laws.specs.Fuel.{next_from_spawn, next_from_join, next_from_malloc, next_from_free, once_told}
+use Rattle.ds_fuel_laws.specs.Fuel.{next_from_spawn, next_from_join, next_from_malloc, next_from_note, next_from_free}
+use Rattle.ds_fuel_laws.specs.Fuel.{once_told}
 use Rattle.ds_fuel_laws.specs.Fuel.{Account, paid_for, account_from, account_after, account_of, and_paid, EndsByFuel}
 use Rattle.ds_fuel_laws.proofs.Kept.{Due, Ends, Keeps, IsKept, going_keeps, stepping_keeps, failing_keeps}
 
@@ -83,6 +86,15 @@ module _ (program : Program) (lim : Bounds) (t : ℕ) where
       told_keeps a (slice_set a.cursors class (place_behind lim class place)) (block_start place class) le
   malloc_keeps a TakesNone le = told_keeps a a.cursors 0 le
 
+  note_keeps : (a : Thread) (next : NoteNext) → a.units + 1 ≤ lim.fuel
+      → IsKept lim (record { paid = a.units + 1; next = next_from_note a.rest next }) (moved_from_note lim a next)
+  note_keeps a (NotesOn at) le = stepping_keeps lim a.cursors (a.units + 1) a.rest a.began (Note at) refl le
+  note_keeps a HasNoted le = told_keeps a a.cursors 0 le
+  note_keeps a HasSkipped le = told_keeps a a.cursors 0 le
+  note_keeps a (FailsNote what) le =
+      failing_keeps lim a.cursors (a.units + 1) a.rest a.began
+      (StoreEnded (Full (place_in_text (a.rest [])) what)) (refl, λ e. cc) le
+
   free_keeps : (a : Thread) (address : ℕ) (next : FreeNext) → a.units + 1 ≤ lim.fuel
       → IsKept lim (record { paid = a.units + 1; next = next_from_free a.rest next })
       (moved_from_free lim a address next)
@@ -108,6 +120,10 @@ module _ (program : Program) (lim : Bounds) (t : ℕ) where
       let next : AllocNext = alloc_next lim at old in
       paying lim account a.units (next_from_malloc a.rest next) (moved_from_malloc lim a next) due
       (malloc_keeps a next (one_more lim account a.units due))
+  step_keeps a (Note at) old account due goes =
+      let next : NoteNext = note_next lim at old in
+      paying lim account a.units (next_from_note a.rest next) (moved_from_note lim a next) due
+      (note_keeps a next (one_more lim account a.units due))
   step_keeps a (Free at) old account due goes =
       let next : FreeNext = free_next at old in
       paying lim account a.units (next_from_free a.rest next) (moved_from_free lim a (freed_address at) next) due
@@ -143,6 +159,7 @@ has_ended : (lim : Bounds) (account : Account) (p : Position) (units : ℕ) (beg
 has_ended lim account (Start at) units began stop keeps is ended = absurd (subst HasEnded (sym is) ended)
 has_ended lim account (Access at) units began stop keeps is ended = absurd (subst HasEnded (sym is) ended)
 has_ended lim account (Malloc at) units began stop keeps is ended = absurd (subst HasEnded (sym is) ended)
+has_ended lim account (Note at) units began stop keeps is ended = absurd (subst HasEnded (sym is) ended)
 has_ended lim account (Free at) units began stop keeps is ended = absurd (subst HasEnded (sym is) ended)
 has_ended lim account (Spawn at) units began stop keeps is ended = absurd (subst HasEnded (sym is) ended)
 has_ended lim account (Join at) units began stop keeps is ended = absurd (subst HasEnded (sym is) ended)
@@ -157,6 +174,7 @@ within : (lim : Bounds) (account : Account) (p : Position) (units : ℕ) → Kee
 within lim account (Start at) units keeps = omega (arith, keeps.left)
 within lim account (Access at) units keeps = omega (arith, keeps.left)
 within lim account (Malloc at) units keeps = omega (arith, keeps.left)
+within lim account (Note at) units keeps = omega (arith, keeps.left)
 within lim account (Free at) units keeps = omega (arith, keeps.left)
 within lim account (Spawn at) units keeps = omega (arith, keeps.left)
 within lim account (Join at) units keeps = omega (arith, keeps.left)

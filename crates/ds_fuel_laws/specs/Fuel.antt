@@ -1,6 +1,6 @@
 -- What the fuel of a thread pays for, counted by what the thread asks: each instruction that begins costs one unit,
 -- and so does each step but the last.
-use Rattle.std.specs.Prelude.{◌≡◌, ◌↔◌, ℕ, ◌+◌, ◌<◌, if◌then◌else◌, List, [], ◌∷◌, Option, Some, None}
+use Rattle.std.specs.Prelude.{◌≡◌, ◌↔◌, ℕ, ◌+◌, ◌<◌, List, [], ◌∷◌, Option, Some, None}
 use Rattle.ds_map.specs.Bounds.{Bounds}
 use Rattle.ds_map.specs.Blocks.{block_start}
 use Rattle.ds_step.specs.declared.Step.{Step}
@@ -9,14 +9,15 @@ use Rattle.ds_plain.specs.declared.Stop.TheVariants.{Idle, Running, Returned, Tr
 use Rattle.ds_plain.specs.declared.Request.{Request}
 use Rattle.ds_plain.specs.declared.Request.TheVariants as requests
 use Rattle.ds_plain.specs.declared.Position.{Position}
-use Rattle.ds_plain.specs.declared.Position.TheVariants.{Start, Access, Malloc, Free, Spawn, Join, DrawPrint, StoreEnded}
-use Rattle.ds_plain.specs.declared.Position.TheVariants.{Over, NoRow}
+use Rattle.ds_plain.specs.declared.Position.TheVariants.{Start, Access, Malloc, Note, Free, Spawn, Join}
+use Rattle.ds_plain.specs.declared.Position.TheVariants.{DrawPrint, StoreEnded, Over, NoRow}
 use Rattle.ds_plain.specs.Behaviour.{Asked, Asks, Silent, Behaviour, told, Program}
 use Rattle.ds_plain.specs.Starting.{StartNext, StartsOn, Begins, start_next}
 use Rattle.ds_plain.specs.Spawning.{SpawnNext, SpawnsOn, SpawnTells, spawn_next}
 use Rattle.ds_plain.specs.Joining.{JoinNext, JoinsOn, Joined, FailsJoin, join_next}
 use Rattle.ds_plain.specs.Accessing.{AccessNext, AccessesOn, Tells, access_next}
 use Rattle.ds_plain.specs.Searching.{AllocNext, Looks, Takes, TakesNone, alloc_next}
+use Rattle.ds_plain.specs.Noting.{NoteNext, NotesOn, HasNoted, HasSkipped, FailsNote, note_next}
 use Rattle.ds_plain.specs.Freeing.{FreeNext, FreesOn, Freed, FailsFree, free_next}
 use Rattle.ds_plain.specs.Thread.{Thread, first_thread, moved, thread_after}
 
@@ -51,7 +52,7 @@ pub data Next : Type 0 where
   ComesTo : Asked → Next
   -- one step more: for what it asked, or to see whether it may begin
   StepsOn : Next
-  -- its last step, since a free or a join failed
+  -- its last step, since a free or a join failed, or a table was full
   Fails : Next
 
 -- What that costs: one unit for each instruction that begins, the one that asks too, and one for the step, but for the
@@ -92,6 +93,12 @@ next_from_malloc rest (Looks at) = StepsOn
 next_from_malloc rest (Takes class place life) = once_told rest (block_start place class)
 next_from_malloc rest TakesNone = once_told rest 0
 
+abbrev pub next_from_note : Behaviour → NoteNext → Next
+next_from_note rest (NotesOn at) = StepsOn
+next_from_note rest HasNoted = once_told rest 0
+next_from_note rest HasSkipped = once_told rest 0
+next_from_note rest (FailsNote what) = Fails
+
 abbrev pub next_from_free : Behaviour → FreeNext → Next
 next_from_free rest (FreesOn at) = StepsOn
 next_from_free rest Freed = once_told rest 0
@@ -128,6 +135,7 @@ account_from program lim t a (Start at) old account =
 account_from program lim t a (Access at) old account = paid_for account (next_from_access a.rest (access_next at old))
 account_from program lim t a (Malloc at) old account =
     paid_for account (next_from_malloc a.rest (alloc_next lim at old))
+account_from program lim t a (Note at) old account = paid_for account (next_from_note a.rest (note_next lim at old))
 account_from program lim t a (Free at) old account = paid_for account (next_from_free a.rest (free_next at old))
 account_from program lim t a (Spawn at) old account = paid_for account (next_from_spawn a.rest (spawn_next at old))
 account_from program lim t a (Join at) old account = paid_for account (next_from_join a.rest (join_next t at old))

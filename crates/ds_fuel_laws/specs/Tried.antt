@@ -1,19 +1,22 @@
 -- The prices tried on small programs.
-use Rattle.std.specs.Prelude.{◌≡◌, ℕ, false, List, [], ◌∷◌, Option, Some, None}
+use Rattle.std.specs.Prelude.{◌≡◌, ℕ, false, List, [], ◌∷◌, ◌++◌, Option, Some, None}
 use Rattle.ds_map.specs.Bounds.{Bounds, bounds}
+use Rattle.ds_step.specs.declared.FullWhat.TheVariants.{Logs}
 use Rattle.ds_step.specs.declared.Step.{Step}
 use Rattle.ds_plain.specs.declared.Place.{Place}
 use Rattle.ds_plain.specs.declared.Stop.{Stop}
-use Rattle.ds_plain.specs.declared.Stop.TheVariants.{Returned, Trap, Fuel}
+use Rattle.ds_plain.specs.declared.Stop.TheVariants.{Returned, Trap, Full, Fuel}
 use Rattle.ds_plain.specs.declared.Request.TheVariants as requests
 use Rattle.ds_plain.specs.declared.StartAt.TheVariants.{LoadStart}
 use Rattle.ds_plain.specs.declared.AccessAt.TheVariants.{LoadWord}
 use Rattle.ds_plain.specs.declared.AllocAt.TheVariants as allocs
+use Rattle.ds_plain.specs.declared.ListAt.TheVariants.{LoadHome, DrawLog}
+use Rattle.ds_plain.specs.declared.NoteAt.TheVariants as notes
 use Rattle.ds_plain.specs.declared.FreeAt.TheVariants as frees
 use Rattle.ds_plain.specs.declared.Search.{Search}
 use Rattle.ds_plain.specs.declared.TrapKind.TheVariants.{BadFree}
 use Rattle.ds_plain.specs.declared.Position.{Position}
-use Rattle.ds_plain.specs.declared.Position.TheVariants.{Start, Malloc, Free, StoreEnded}
+use Rattle.ds_plain.specs.declared.Position.TheVariants.{Start, Malloc, Note, Free, StoreEnded}
 use Rattle.ds_plain.specs.declared.Position.TheVariants as positions
 use Rattle.ds_plain.specs.Behaviour.{Asks, Behaviour, silent, Program}
 use Rattle.ds_plain.specs.Searching.{search_from}
@@ -163,8 +166,39 @@ TrapsWithThree = Ends (main_with failing) 3 0 in_free bad_free 3 (Some 0) 3
 abbrev pub EndsBeforeFree : Type 0
 EndsBeforeFree = Ends (main_with failing) 2 0 (at_once Fuel) Fuel 1 (Some 2) 2
 
+-- Main takes a block of 8 bytes and notes its address, where there are no logs: 1 for the load of its start word, 2
+-- and 4 steps for the malloc, 1 and 4 steps for the note. That no log is left costs nothing.
+abbrev pub noting : Behaviour
+noting [] = Asks 2 place (requests.Malloc 8)
+noting (address ∷ answers) = Asks 1 place (requests.Note 0 address)
+
+abbrev pub behind_malloc : List (Position × ℕ)
+behind_malloc =
+    (Start LoadStart, 1)
+    ∷ (Malloc (allocs.LoadPage first_search), 0)
+    ∷ (Malloc (allocs.SwapPage first_search), 0)
+    ∷ (Malloc (allocs.LoadBlock first_search 0), 0)
+    ∷ (Malloc (allocs.SwapBlock first_search 0 0), 0)
+    ∷ (Note (notes.LoadPage 0 0x1000000), 1)
+    ∷ (Note (notes.LoadBlock 0 0 0x1000000), 5)
+    ∷ (Note (notes.Seek 0 (LoadHome 0 1)), 0)
+    ∷ []
+
+abbrev pub no_log : Stop
+no_log = Full place Logs
+
+abbrev pub in_note : List (Position × ℕ)
+in_note = behind_malloc ++ (Note (notes.Seek 0 (DrawLog 0 1)), 0) ∷ (StoreEnded no_log, 0) ∷ []
+
+abbrev pub FullWithTwelve : Type 0
+FullWithTwelve = Ends (main_with noting) 12 0 in_note no_log 12 (Some 0) 12
+
+-- with 11 the last step of the note would be the twelfth unit
+abbrev pub EndsInNote : Type 0
+EndsInNote = Ends (main_with noting) 11 0 (behind_malloc ++ (StoreEnded Fuel, 0) ∷ []) Fuel 11 (Some 1) 11
+
 abbrev pub PricesAreTried : Type 0
 PricesAreTried =
     NeverAsks × ReturnsWithTwo × EndsWithOne × ReturnsWithSix × EndsBehindLoad × EndsAtLoad × EndsBeforeLoad
     × NeverBegins × ReturnsWithThirteen × EndsBehindFree × EndsInMalloc × EndsBeforeMalloc × TrapsWithThree
-    × EndsBeforeFree
+    × EndsBeforeFree × FullWithTwelve × EndsInNote

@@ -1,6 +1,7 @@
 -- What each row of an access to program memory does: its event is allowed, and words, state and threads go together
 -- afterwards.
-use Rattle.std.proofs.Common.{◌≡◌, ℕ, ◌+◌, ◌==◌, Bool, true, false, not, if◌then◌else◌, List, Some, slice_index, slice_set}
+use Rattle.std.proofs.Common.{◌≡◌, ℕ, ◌+◌, ◌==◌, Bool, true, false, not, if◌then◌else◌, List, Some, slice_index}
+use Rattle.std.proofs.Common.{slice_set}
 use Rattle.std.proofs.Common.{refl, sym, ap, ◌∙◌, subst, inl, inr, arith, eqb-true}
 use Rattle.std.proofs.lemmas.Bool.{and_parts, eq-eqb}
 use Rattle.ds_ast.specs.declared.words.RmwOp.{RmwOp}
@@ -16,7 +17,8 @@ use Rattle.ds_plain.specs.declared.Access.{Access}
 use Rattle.ds_plain.specs.declared.Change.{Change}
 use Rattle.ds_plain.specs.declared.Change.TheVariants.{Put, Combine, Replace}
 use Rattle.ds_plain.specs.declared.AccessAt.{AccessAt}
-use Rattle.ds_plain.specs.declared.AccessAt.TheVariants.{LoadWord, StoreWord, CombineWord, ReplaceWord, LoadPart, SwapPart}
+use Rattle.ds_plain.specs.declared.AccessAt.TheVariants.{LoadWord, StoreWord, CombineWord, ReplaceWord, LoadPart}
+use Rattle.ds_plain.specs.declared.AccessAt.TheVariants.{SwapPart}
 use Rattle.ds_plain.specs.declared.Position.TheVariants as positions
 use Rattle.ds_plain.specs.declared.Request.{Request}
 use Rattle.ds_plain.specs.declared.Request.TheVariants as requests
@@ -137,7 +139,7 @@ module _ (setting : Setting) (t : ℕ) (words : List ℕ) (s : State) (before : 
         linked = answered_linked setting t s before.walks before.range s' answer rest (not_due loc runs.doing) (units + 1)
             cursors (ap (phase_with (not_due loc)) runs.going) none looks;
         others = replaced_passes setting t s s' phase (λ u. passes_not_due loc (s.threads u));
-        leaves = leaves_all t s (answered lim t answer s') refl refl refl;
+        leaves = leaves_all t s (answered lim t answer s') refl refl;
         agrees = agrees_stored lim words s (answered lim t answer s') before.agrees loc
             (written_by kind a b (slice_index words (word_of lim loc)))
             (record { given = refl; out = refl; pages = refl; blocks = refl })
@@ -160,7 +162,7 @@ module _ (setting : Setting) (t : ℕ) (words : List ℕ) (s : State) (before : 
         linked = answered_linked setting t s before.walks before.range s old rest runs.doing (units + 1) cursors
             runs.going none looks;
         others = replaced_passes setting t s s (phase_answered lim s old (s.threads t)) (all_same setting t s);
-        leaves = leaves_all t s (changed setting s t (events.Load loc old)) refl refl refl;
+        leaves = leaves_all t s (changed setting s t (events.Load loc old)) refl refl;
         agrees = subst (λ (v : ℕ). AgreesWith loc v (changed setting s t (events.Load loc old))) (sym kept)
             (agrees_loaded lim words s (changed setting s t (events.Load loc old)) before.agrees (word_of lim loc)
             (record { given = refl; out = refl; pages = refl; blocks = refl }) refl);
@@ -266,7 +268,7 @@ module _ (setting : Setting) (t : ℕ) (words : List ℕ) (s : State) (before : 
         (positions.Access (SwapPart access change old)) (l, refused) none
         (Spent l.has_begun (goes_run rest (s.threads t) l.asking.runs) refl);
     others = λ u ne. all_same setting t s u;
-    leaves = leaves_all t s s refl refl refl;
+    leaves = leaves_all t s s refl refl;
     agrees = subst (λ (v : ℕ). AgreesWith access.loc v s) (sym kept)
         (agrees_loaded lim words s s before.agrees (word_of lim access.loc)
         (record { given = refl; out = refl; pages = refl; blocks = refl }) refl);

@@ -1,5 +1,7 @@
--- The steps of a thread that runs and starts none: where they lead it, and that they leave the words of the threads alone.
-use Rattle.std.proofs.Common.{◌≡◌, ℕ, ◌+◌, ◌^◌, ◌<◌, ◌==◌, Bool, true, false, if◌then◌else◌, List, length, slice_index, nat_lt, []}
+-- The steps of a thread that runs and starts none: where they lead it, and that they leave the words of the threads
+-- alone.
+use Rattle.std.proofs.Common.{◌≡◌, ℕ, ◌+◌, ◌^◌, ◌<◌, ◌==◌, Bool, true, false, if◌then◌else◌, List, length}
+use Rattle.std.proofs.Common.{slice_index, nat_lt, []}
 use Rattle.std.proofs.Common.{slice_set, refl, sym, ◌∙◌, inl, inr, arith}
 use Rattle.ds_map.specs.Bounds.{Bounds}
 use Rattle.ds_map.specs.Blocks.{block_start}
@@ -8,41 +10,50 @@ use Rattle.ds_step.specs.declared.Event.{Event}
 use Rattle.ds_step.specs.Word.{words_after, answer_on}
 use Rattle.ds_plain.specs.declared.Access.{Access}
 use Rattle.ds_plain.specs.declared.Change.{Change}
-use Rattle.ds_plain.specs.declared.Stop.TheVariants.{Fuel}
+use Rattle.ds_plain.specs.declared.Stop.TheVariants.{Full, Fuel}
 use Rattle.ds_plain.specs.declared.TrapKind.TheVariants.{BadJoin}
 use Rattle.ds_plain.specs.declared.AccessAt.{AccessAt}
-use Rattle.ds_plain.specs.declared.AccessAt.TheVariants.{LoadWord, StoreWord, CombineWord, ReplaceWord, LoadPart, SwapPart}
+use Rattle.ds_plain.specs.declared.AccessAt.TheVariants.{LoadWord, StoreWord, CombineWord, ReplaceWord, LoadPart}
+use Rattle.ds_plain.specs.declared.AccessAt.TheVariants.{SwapPart}
 use Rattle.ds_plain.specs.declared.AllocAt.{AllocAt}
 use Rattle.ds_plain.specs.declared.AllocAt.TheVariants as allocs
+use Rattle.ds_plain.specs.declared.ListAt.TheVariants.{LoadHome, DrawLog, StoreHeader, StoreHome, LoadHeader}
+use Rattle.ds_plain.specs.declared.NoteAt.{NoteAt}
+use Rattle.ds_plain.specs.declared.NoteAt.TheVariants.{Seek, StoreLife, StoreEntry, CountEntry}
+use Rattle.ds_plain.specs.declared.NoteAt.TheVariants as notes
 use Rattle.ds_plain.specs.declared.FreeAt.{FreeAt}
 use Rattle.ds_plain.specs.declared.FreeAt.TheVariants as frees
 use Rattle.ds_plain.specs.declared.JoinAt.{JoinAt}
 use Rattle.ds_plain.specs.declared.JoinAt.TheVariants.{LoadGiven, LoadEnded}
 use Rattle.ds_plain.specs.declared.Position.{Position}
-use Rattle.ds_plain.specs.declared.Position.TheVariants.{Malloc, Free, Join, DrawPrint, StoreEnded}
+use Rattle.ds_plain.specs.declared.Position.TheVariants.{Malloc, Note, Free, Join, DrawPrint, StoreEnded}
 use Rattle.ds_plain.specs.declared.Position.TheVariants as positions
 use Rattle.ds_plain.specs.Behaviour.{Behaviour, told, place_in_text}
 use Rattle.ds_plain.specs.State.{State, Setting}
 use Rattle.ds_plain.specs.Plain.{trap_stop, changed}
 use Rattle.ds_plain.specs.Accessing.{AccessNext, AccessesOn, Tells, is_refused, change_answer, access_op, access_event}
 use Rattle.ds_plain.specs.Accessing.{behind_part, access_next}
-use Rattle.ds_plain.specs.Searching.{AllocNext, Looks, Takes, TakesNone, place_behind, alloc_op, alloc_event, alloc_next}
+use Rattle.ds_plain.specs.Searching.{AllocNext, Looks, Takes, TakesNone, place_behind, alloc_op, alloc_event}
+use Rattle.ds_plain.specs.Searching.{alloc_next}
+use Rattle.ds_plain.specs.Noting.{NoteNext, NotesOn, HasNoted, HasSkipped, FailsNote, note_op, note_event, note_next}
 use Rattle.ds_plain.specs.Freeing.{FreeNext, FreesOn, Freed, FailsFree, free_op, free_event, free_next}
 use Rattle.ds_plain.specs.Joining.{is_bad_join, JoinsOn, Joined, FailsJoin, join_op, join_event, join_next}
 use Rattle.ds_plain.specs.Table.{op_at, event_at}
-use Rattle.ds_plain.specs.Thread.{Thread, standing, going_on, moved_from_access, moved_from_malloc, moved_from_free}
-use Rattle.ds_plain.specs.Thread.{moved_from_join, freed_address, trap_kind}
+use Rattle.ds_plain.specs.Thread.{Thread, standing, going_on, moved_from_access, moved_from_malloc, moved_from_note}
+use Rattle.ds_plain.specs.Thread.{moved_from_free, moved_from_join, freed_address, trap_kind}
 use Rattle.ds_plain_laws.proofs.Choices.{of_if}
 use Rattle.ds_plain_laws.proofs.Phases.{Goes, goes_run}
-use Rattle.ds_plain_laws.proofs.Links.{Linked, LinkedAt}
+use Rattle.ds_plain_laws.proofs.Links.{Linked, LinkedAt, note_begun}
 use Rattle.ds_plain_laws.proofs.Makes.{Makes, Before, print_makes}
 use Rattle.ds_plain_laws.proofs.Accesses.{access_makes}
 use Rattle.ds_plain_laws.proofs.Mallocs.{malloc_makes}
+use Rattle.ds_plain_laws.proofs.Notes.{note_makes}
 use Rattle.ds_plain_laws.proofs.Frees.{free_makes}
 use Rattle.ds_plain_laws.proofs.Joins.{good_by, join_makes}
 use Rattle.ds_plain_laws.proofs.Seats.{IsSeated, Seats}
-use Rattle.ds_plain_laws.proofs.Moves.{Moves, apart_kept, load_kept, IsQuiet, Lands, WaitsNot, standing_lands, standing_not}
-use Rattle.ds_plain_laws.proofs.Moves.{going_lands, going_not, lands_goes, quiet_seated, quiet_moves}
+use Rattle.ds_plain_laws.proofs.Moves.{Moves, IsOfThreads, apart_kept, load_kept, IsQuiet, Lands, WaitsNot}
+use Rattle.ds_plain_laws.proofs.Moves.{standing_lands, standing_not, going_lands, going_not, lands_goes, quiet_seated}
+use Rattle.ds_plain_laws.proofs.Moves.{quiet_moves}
 
 -- a thread that runs stands there, and in the midst of no wait
 record Rests (a : Thread) : Type 0 where
@@ -74,22 +85,22 @@ module _ (setting : Setting) (t : ℕ) (words : List ℕ) (s : State) (threads :
   Links p = LinkedAt setting.program lim t rest began s cursors p
 
   abbrev IsKeptBy : WordOp → Type 0
-  IsKeptBy op = (i : ℕ) → i < 64 → (i ≡ 2 → ⊥) → slice_index (words_after words op) i ≡ slice_index words i
+  IsKeptBy op = (i : ℕ) → IsOfThreads i → slice_index (words_after words op) i ≡ slice_index words i
 
   -- ACCESSES
 
   access_kept : (at : AccessAt) → IsKeptBy (access_op lim at)
-  access_kept (LoadWord loc) = λ i lt ne. apart_kept words (access_op lim (LoadWord loc)) i (inr (omega arith)) lt ne
+  access_kept (LoadWord loc) = λ i which. apart_kept words (access_op lim (LoadWord loc)) i (inr (omega arith)) which
   access_kept (StoreWord loc value) =
-      λ i lt ne. apart_kept words (access_op lim (StoreWord loc value)) i (inr (omega arith)) lt ne
+      λ i which. apart_kept words (access_op lim (StoreWord loc value)) i (inr (omega arith)) which
   access_kept (CombineWord loc op value) =
-      λ i lt ne. apart_kept words (access_op lim (CombineWord loc op value)) i (inr (omega arith)) lt ne
+      λ i which. apart_kept words (access_op lim (CombineWord loc op value)) i (inr (omega arith)) which
   access_kept (ReplaceWord loc expected new) =
-      λ i lt ne. apart_kept words (access_op lim (ReplaceWord loc expected new)) i (inr (omega arith)) lt ne
+      λ i which. apart_kept words (access_op lim (ReplaceWord loc expected new)) i (inr (omega arith)) which
   access_kept (LoadPart access change) =
-      λ i lt ne. apart_kept words (access_op lim (LoadPart access change)) i (inr (omega arith)) lt ne
+      λ i which. apart_kept words (access_op lim (LoadPart access change)) i (inr (omega arith)) which
   access_kept (SwapPart access change seen) =
-      λ i lt ne. apart_kept words (access_op lim (SwapPart access change seen)) i (inr (omega arith)) lt ne
+      λ i which. apart_kept words (access_op lim (SwapPart access change seen)) i (inr (omega arith)) which
 
   part_rests : (a : Thread) (access : Access) (change : Change) (word : ℕ) → a.began ≡ true
       → Rests (moved_from_access lim a (behind_part access change word))
@@ -114,17 +125,17 @@ module _ (setting : Setting) (t : ℕ) (words : List ℕ) (s : State) (threads :
       (going_rests lim cursors (units + 1) (told rest (change_answer change seen)))
       (part_rests a access change old l.0.has_begun)
 
-  -- MALLOCS AND FREES
+  -- MALLOCS, NOTES AND FREES
 
   malloc_kept : (at : AllocAt) → IsKeptBy (alloc_op lim at)
   malloc_kept (allocs.LoadPage search) =
-      λ i lt ne. apart_kept words (alloc_op lim (allocs.LoadPage search)) i (inr (omega arith)) lt ne
+      λ i which. apart_kept words (alloc_op lim (allocs.LoadPage search)) i (inr (omega arith)) which
   malloc_kept (allocs.SwapPage search) =
-      λ i lt ne. apart_kept words (alloc_op lim (allocs.SwapPage search)) i (inr (omega arith)) lt ne
+      λ i which. apart_kept words (alloc_op lim (allocs.SwapPage search)) i (inr (omega arith)) which
   malloc_kept (allocs.LoadBlock search index) =
-      λ i lt ne. apart_kept words (alloc_op lim (allocs.LoadBlock search index)) i (inr (omega arith)) lt ne
+      λ i which. apart_kept words (alloc_op lim (allocs.LoadBlock search index)) i (inr (omega arith)) which
   malloc_kept (allocs.SwapBlock search index life) =
-      λ i lt ne. apart_kept words (alloc_op lim (allocs.SwapBlock search index life)) i (inr (omega arith)) lt ne
+      λ i which. apart_kept words (alloc_op lim (allocs.SwapBlock search index life)) i (inr (omega arith)) which
 
   malloc_rests : (a : Thread) (next : AllocNext) → a.began ≡ true → Rests (moved_from_malloc lim a next)
   malloc_rests a (Looks at) b =
@@ -134,15 +145,47 @@ module _ (setting : Setting) (t : ℕ) (words : List ℕ) (s : State) (threads :
       (told a.rest (block_start place class))
   malloc_rests a TakesNone b = going_rests lim a.cursors (a.units + 1) (told a.rest 0)
 
+  note_kept : (at : NoteAt) → IsKeptBy (note_op lim t at)
+  note_kept (notes.LoadPage loc value) =
+      λ i which. apart_kept words (note_op lim t (notes.LoadPage loc value)) i (inr (omega arith)) which
+  note_kept (notes.LoadBlock loc place start) =
+      λ i which. apart_kept words (note_op lim t (notes.LoadBlock loc place start)) i (inr (omega arith)) which
+  note_kept (Seek loc (LoadHome place life)) =
+      λ i which. apart_kept words (note_op lim t (Seek loc (LoadHome place life))) i (inr (omega arith)) which
+  note_kept (Seek loc (DrawLog place life)) =
+      λ i which.
+      apart_kept words (note_op lim t (Seek loc (DrawLog place life))) i (inl (omega arith, omega arith)) which
+  note_kept (Seek loc (StoreHeader place life log)) =
+      λ i which. apart_kept words (note_op lim t (Seek loc (StoreHeader place life log))) i (inr (omega arith)) which
+  note_kept (Seek loc (StoreHome place life log)) =
+      λ i which. apart_kept words (note_op lim t (Seek loc (StoreHome place life log))) i (inr (omega arith)) which
+  note_kept (Seek loc (LoadHeader place life log)) =
+      λ i which. apart_kept words (note_op lim t (Seek loc (LoadHeader place life log))) i (inr (omega arith)) which
+  note_kept (StoreLife loc place life log) =
+      λ i which. apart_kept words (note_op lim t (StoreLife loc place life log)) i (inr (omega arith)) which
+  note_kept (StoreEntry loc place life log used) =
+      λ i which. apart_kept words (note_op lim t (StoreEntry loc place life log used)) i (inr (omega arith)) which
+  note_kept (CountEntry loc place life log used) =
+      λ i which. apart_kept words (note_op lim t (CountEntry loc place life log used)) i (inr (omega arith)) which
+
+  note_rests : (a : Thread) (next : NoteNext) → a.began ≡ true → Rests (moved_from_note lim a next)
+  note_rests a (NotesOn at) b =
+      standing_rests lim a.cursors a.rest (a.units + 1) a.began (Note at) b tt (λ n is. cc)
+  note_rests a HasNoted b = going_rests lim a.cursors (a.units + 1) (told a.rest 0)
+  note_rests a HasSkipped b = going_rests lim a.cursors (a.units + 1) (told a.rest 0)
+  note_rests a (FailsNote what) b =
+      standing_rests lim a.cursors a.rest (a.units + 1) a.began
+      (StoreEnded (Full (place_in_text (a.rest [])) what)) b tt (λ n is. cc)
+
   free_kept : (at : FreeAt) → IsKeptBy (free_op lim at)
   free_kept (frees.LoadPage address) =
-      λ i lt ne. apart_kept words (free_op lim (frees.LoadPage address)) i (inr (omega arith)) lt ne
+      λ i which. apart_kept words (free_op lim (frees.LoadPage address)) i (inr (omega arith)) which
   free_kept (frees.LoadBlock address place) =
-      λ i lt ne. apart_kept words (free_op lim (frees.LoadBlock address place)) i (inr (omega arith)) lt ne
+      λ i which. apart_kept words (free_op lim (frees.LoadBlock address place)) i (inr (omega arith)) which
   free_kept (frees.SwapBlock address place life) =
-      λ i lt ne. apart_kept words (free_op lim (frees.SwapBlock address place life)) i (inr (omega arith)) lt ne
+      λ i which. apart_kept words (free_op lim (frees.SwapBlock address place life)) i (inr (omega arith)) which
   free_kept (frees.StoreFree place life) =
-      λ i lt ne. apart_kept words (free_op lim (frees.StoreFree place life)) i (inr (omega arith)) lt ne
+      λ i which. apart_kept words (free_op lim (frees.StoreFree place life)) i (inr (omega arith)) which
 
   free_rests : (a : Thread) (address : ℕ) (next : FreeNext) → a.began ≡ true → Rests (moved_from_free lim a address next)
   free_rests a address (FreesOn at) b =
@@ -161,8 +204,8 @@ module _ (setting : Setting) (t : ℕ) (words : List ℕ) (s : State) (threads :
   -- JOINS
 
   join_kept : (at : JoinAt) → IsKeptBy (join_op at)
-  join_kept (LoadGiven number) = λ i lt ne. load_kept words (join_op (LoadGiven number)).word i
-  join_kept (LoadEnded n) = λ i lt ne. load_kept words (join_op (LoadEnded n)).word i
+  join_kept (LoadGiven number) = λ i which. load_kept words (join_op (LoadGiven number)).word i
+  join_kept (LoadEnded n) = λ i which. load_kept words (join_op (LoadEnded n)).word i
 
   join_begun : (at : JoinAt) → Linked setting.program lim t rest began s (Join at) → began ≡ true
   join_begun (LoadGiven number) l = l.0
@@ -233,7 +276,7 @@ module _ (setting : Setting) (t : ℕ) (words : List ℕ) (s : State) (threads :
       → Goes (s.threads t) → Moves setting t words s threads op event s' a
   act_moves p op event s' a quiet l makes kept awaits goes =
       let given : s'.given ≡ s.given =
-      sym makes.agrees.given ∙ (kept 1 (omega arith) (λ e. omega (arith, e)) ∙ before.agrees.given) in
+      sym makes.agrees.given ∙ (kept 1 (inl refl) ∙ before.agrees.given) in
       quiet_moves setting t words s threads maker before seats few op event s' a makes kept goes awaits.lands
       (awaits.seat given)
 
@@ -267,6 +310,17 @@ module _ (setting : Setting) (t : ℕ) (words : List ℕ) (s : State) (threads :
       (rests_await _ _ _ (malloc_rests (thread (Malloc at)) (alloc_next lim at old) l.stands.has_begun))
       (goes_run rest (s.threads t) l.stands.asking.runs)
 
+  pub note_moves : (at : NoteAt) (old : ℕ) → old ≡ answer_on words (note_op lim t at) → Links (Note at)
+      → Moves setting t words s threads (note_op lim t at) (note_event lim at old)
+      (changed setting s t (note_event lim at old)) (moved_from_note lim (thread (Note at)) (note_next lim at old))
+  note_moves at old is l =
+      let begun : began ≡ true = note_begun lim rest began s.pages (s.threads t) at l.stands.0 in
+      act_moves (Note at) (note_op lim t at) (note_event lim at old) (changed setting s t (note_event lim at old))
+      (moved_from_note lim (thread (Note at)) (note_next lim at old)) tt l
+      (note_makes setting t words s before few rest units began cursors at old is l) (note_kept at)
+      (rests_await _ _ _ (note_rests (thread (Note at)) (note_next lim at old) begun))
+      (lands_goes setting.program lim t rest began s (Note at) begun tt l.stands)
+
   pub free_moves : (at : FreeAt) (old : ℕ) → old ≡ answer_on words (free_op lim at) → Links (Free at)
       → Moves setting t words s threads (free_op lim at) (free_event at old) (changed setting s t (free_event at old))
       (moved_from_free lim (thread (Free at)) (freed_address at) (free_next at old))
@@ -297,6 +351,6 @@ module _ (setting : Setting) (t : ℕ) (words : List ℕ) (s : State) (threads :
       act_moves (DrawPrint value) (op_at lim t (DrawPrint value)) (event_at lim t (DrawPrint value) old)
       (changed setting s t (event_at lim t (DrawPrint value) old)) (going_on lim cursors (units + 1) (told rest 0)) tt l
       (print_makes setting t words s before rest units began cursors value old counts is l)
-      (λ i lt ne. apart_kept words (op_at lim t (DrawPrint value)) i (inl refl) lt ne)
+      (λ i which. apart_kept words (op_at lim t (DrawPrint value)) i (inl (omega arith, omega arith)) which)
       (rests_await _ _ _ (going_rests lim cursors (units + 1) (told rest 0)))
       (goes_run rest (s.threads t) l.stands.runs)

@@ -1,5 +1,6 @@
 -- How long traces and histories can be.
-use Rattle.std.proofs.Common.{◌≡◌, ℕ, zero, suc, ◌+◌, ◌*◌, ◌<◌, ◌≤◌, ◌==◌, Bool, true, false, if◌then◌else◌, nat_lt, slice_set}
+use Rattle.std.proofs.Common.{◌≡◌, ℕ, zero, suc, ◌+◌, ◌*◌, ◌<◌, ◌≤◌, ◌==◌, Bool, true, false, if◌then◌else◌}
+use Rattle.std.proofs.Common.{nat_lt, slice_set}
 use Rattle.std.proofs.Common.{nat_le, List, [], ◌∷◌, length, refl, sym, ap, ◌∙◌, subst, inl, inr, ◌⊎◌, arith, eqb-true}
 use Rattle.std.proofs.Common.{ltb-true, leb-true}
 use Rattle.std.proofs.lemmas.Bool.{cases_eq, eq-eqb, ne_eqb}
@@ -7,11 +8,11 @@ use Rattle.ds_map.specs.Bounds.{Bounds}
 use Rattle.ds_map.specs.Blocks.{block_start}
 use Rattle.ds_step.specs.declared.Step.{Step}
 use Rattle.ds_plain.specs.declared.Stop.{Stop}
-use Rattle.ds_plain.specs.declared.Stop.TheVariants.{Fuel}
+use Rattle.ds_plain.specs.declared.Stop.TheVariants.{Full, Fuel}
 use Rattle.ds_plain.specs.declared.TrapKind.TheVariants.{BadJoin}
 use Rattle.ds_plain.specs.declared.Position.{Position}
-use Rattle.ds_plain.specs.declared.Position.TheVariants.{Start, Malloc, Free, Spawn, Join, DrawPrint, StoreEnded, Over}
-use Rattle.ds_plain.specs.declared.Position.TheVariants.{NoRow}
+use Rattle.ds_plain.specs.declared.Position.TheVariants.{Start, Malloc, Note, Free, Spawn, Join}
+use Rattle.ds_plain.specs.declared.Position.TheVariants.{DrawPrint, StoreEnded, Over, NoRow}
 use Rattle.ds_plain.specs.declared.Position.TheVariants as positions
 use Rattle.ds_plain.specs.Behaviour.{Asked, Asks, Silent, Behaviour, place_in_text, told, Program}
 use Rattle.ds_plain.specs.Starting.{StartNext, StartsOn, Begins, start_next}
@@ -19,12 +20,13 @@ use Rattle.ds_plain.specs.Spawning.{SpawnNext, SpawnsOn, SpawnTells, spawn_next}
 use Rattle.ds_plain.specs.Joining.{JoinNext, JoinsOn, Joined, FailsJoin, join_next}
 use Rattle.ds_plain.specs.Accessing.{AccessNext, AccessesOn, Tells, access_next}
 use Rattle.ds_plain.specs.Searching.{AllocNext, Looks, Takes, TakesNone, place_behind, alloc_next}
+use Rattle.ds_plain.specs.Noting.{NoteNext, NotesOn, HasNoted, HasSkipped, FailsNote, note_next}
 use Rattle.ds_plain.specs.Freeing.{FreeNext, FreesOn, Freed, FailsFree, free_next}
 use Rattle.ds_plain.specs.Table.{position_of, is_over}
 use Rattle.ds_plain.specs.Plain.{trap_stop}
 use Rattle.ds_plain.specs.Thread.{Thread, paying, standing, arriving, going_on, moved_from_access, moved_from_malloc}
-use Rattle.ds_plain.specs.Thread.{moved_from_start, moved_from_spawn, moved_from_join, moved_from_free, freed_address}
-use Rattle.ds_plain.specs.Thread.{trap_kind, moved_from, Follows}
+use Rattle.ds_plain.specs.Thread.{moved_from_start, moved_from_spawn, moved_from_join, moved_from_note}
+use Rattle.ds_plain.specs.Thread.{moved_from_free, freed_address, trap_kind, moved_from, Follows}
 use Rattle.ds_plain.specs.History.{History, steps_of}
 
 -- a thread that is over makes no step
@@ -38,6 +40,7 @@ abbrev pub HasPaid : Bounds → ℕ → Position → Type 0
 HasPaid lim units (Start at) = units < lim.fuel
 HasPaid lim units (positions.Access at) = units < lim.fuel
 HasPaid lim units (Malloc at) = units < lim.fuel
+HasPaid lim units (Note at) = units < lim.fuel
 HasPaid lim units (Free at) = units < lim.fuel
 HasPaid lim units (Spawn at) = units < lim.fuel
 HasPaid lim units (Join at) = units < lim.fuel
@@ -73,6 +76,7 @@ module _ (lim : Bounds) (cursors : List ℕ) where
   standing_pays rest units began (positions.Access at) le =
       paying_pays rest units began (positions.Access at) (λ lt. lt) le
   standing_pays rest units began (Malloc at) le = paying_pays rest units began (Malloc at) (λ lt. lt) le
+  standing_pays rest units began (Note at) le = paying_pays rest units began (Note at) (λ lt. lt) le
   standing_pays rest units began (Free at) le = paying_pays rest units began (Free at) (λ lt. lt) le
   standing_pays rest units began (Spawn at) le = paying_pays rest units began (Spawn at) (λ lt. lt) le
   standing_pays rest units began (Join at) le = paying_pays rest units began (Join at) (λ lt. lt) le
@@ -141,6 +145,15 @@ module _ (program : Program) (lim : Bounds) (t : ℕ) where
       (told a.rest (block_start place class)) (omega arith)
   malloc_pays a TakesNone lt = going_pays lim a.cursors (a.units + 1) (told a.rest 0) (omega arith)
 
+  note_pays : (a : Thread) (next : NoteNext) → a.units < lim.fuel
+      → Pays lim (a.units + 1) (moved_from_note lim a next)
+  note_pays a (NotesOn at) lt = standing_pays lim a.cursors a.rest (a.units + 1) a.began (Note at) (omega arith)
+  note_pays a HasNoted lt = going_pays lim a.cursors (a.units + 1) (told a.rest 0) (omega arith)
+  note_pays a HasSkipped lt = going_pays lim a.cursors (a.units + 1) (told a.rest 0) (omega arith)
+  note_pays a (FailsNote what) lt =
+      standing_pays lim a.cursors a.rest (a.units + 1) a.began
+      (StoreEnded (Full (place_in_text (a.rest [])) what)) (omega arith)
+
   free_pays : (a : Thread) (address : ℕ) (next : FreeNext) → a.units < lim.fuel
       → Pays lim (a.units + 1) (moved_from_free lim a address next)
   free_pays a address (FreesOn at) lt =
@@ -160,6 +173,8 @@ module _ (program : Program) (lim : Bounds) (t : ℕ) where
       access_pays (thread_with rest (positions.Access at) units began cursors) (access_next at old) lt
   step_pays (Malloc at) rest units began cursors old lt over goes =
       malloc_pays (thread_with rest (Malloc at) units began cursors) (alloc_next lim at old) lt
+  step_pays (Note at) rest units began cursors old lt over goes =
+      note_pays (thread_with rest (Note at) units began cursors) (note_next lim at old) lt
   step_pays (Free at) rest units began cursors old lt over goes =
       free_pays (thread_with rest (Free at) units began cursors) (freed_address at) (free_next at old) lt
   step_pays (Spawn at) rest units began cursors old lt over goes =
@@ -180,6 +195,7 @@ module _ (program : Program) (lim : Bounds) (t : ℕ) where
   trace_length [] rest (Start at) units began cursors paid follows = omega arith
   trace_length [] rest (positions.Access at) units began cursors paid follows = omega arith
   trace_length [] rest (Malloc at) units began cursors paid follows = omega arith
+  trace_length [] rest (Note at) units began cursors paid follows = omega arith
   trace_length [] rest (Free at) units began cursors paid follows = omega arith
   trace_length [] rest (Spawn at) units began cursors paid follows = omega arith
   trace_length [] rest (Join at) units began cursors paid follows = omega arith
@@ -205,6 +221,11 @@ module _ (program : Program) (lim : Bounds) (t : ℕ) where
   trace_length (s ∷ ss) rest (Malloc at) units began cursors paid follows =
       let a : Thread = after (Malloc at) rest units began cursors s.old in
       let pays = step_pays (Malloc at) rest units began cursors s.old paid follows.0 (λ stop e. cc) in
+      let more = trace_length ss a.rest a.position a.units a.began a.cursors pays.paid follows.2 in
+      omega (arith, more, pays.least)
+  trace_length (s ∷ ss) rest (Note at) units began cursors paid follows =
+      let a : Thread = after (Note at) rest units began cursors s.old in
+      let pays = step_pays (Note at) rest units began cursors s.old paid follows.0 (λ stop e. cc) in
       let more = trace_length ss a.rest a.position a.units a.began a.cursors pays.paid follows.2 in
       omega (arith, more, pays.least)
   trace_length (s ∷ ss) rest (Free at) units began cursors paid follows =

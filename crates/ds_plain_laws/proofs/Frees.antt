@@ -29,8 +29,10 @@ use Rattle.ds_plain.specs.Plain.{Allowed, Frees, IsLive, IsNotFreeable, so_far, 
 use Rattle.ds_plain.specs.Plain.{phase_answered, with_block, noted_for, free_trap, trap_of, place_of_phase, request_of}
 use Rattle.ds_plain.specs.Plain.{changed}
 use Rattle.ds_plain.specs.Freeing.{StartSeen, StartOf, NoStart, NoPageWord, start_seen, LifeSeen, LiveIn, NotLive}
-use Rattle.ds_plain.specs.Freeing.{NoBlockWord, life_seen, free_op, start_loaded, life_loaded, life_swapped, free_event}
-use Rattle.ds_plain.specs.Freeing.{FreesOn, FailsFree, behind_start_load, behind_life_load, behind_life_swap, free_next}
+use Rattle.ds_plain.specs.Freeing.{NoBlockWord, life_seen, free_op, start_loaded, life_loaded, life_swapped}
+use Rattle.ds_plain.specs.Freeing.{free_event}
+use Rattle.ds_plain.specs.Freeing.{FreesOn, FailsFree, behind_start_load, behind_life_load, behind_life_swap}
+use Rattle.ds_plain.specs.Freeing.{free_next}
 use Rattle.ds_plain.specs.Freeing.{is_freeable}
 use Rattle.ds_plain.specs.Reached.{AreCursors}
 use Rattle.ds_plain.specs.Thread.{Thread, standing, going_on, trap_kind, moved_from_free, freed_address}
@@ -74,7 +76,7 @@ module _ (setting : Setting) (t : ℕ) (words : List ℕ) (s : State) (before : 
     linked = free_goes setting.program lim t s cursors looks rest (units + 1) began at' here held asks.has_begun
         asks.asking.runs;
     others = λ u ne. all_same setting t s u;
-    leaves = leaves_all t s s refl refl refl;
+    leaves = leaves_all t s s refl refl;
     agrees = subst (λ (v : ℕ). Agrees lim (slice_set words op.word v) s) (sym kept)
         (agrees_loaded lim words s s before.agrees op.word
         (record { given = refl; out = refl; pages = refl; blocks = refl }) refl);
@@ -119,7 +121,7 @@ module _ (setting : Setting) (t : ℕ) (words : List ℕ) (s : State) (before : 
           looks = looks;
         };
         others = replaced_passes setting t s s (phase_with ends (s.threads t)) (all_same setting t s);
-        leaves = leaves_all t s s' refl refl refl;
+        leaves = leaves_all t s s' refl refl;
         agrees = subst (λ (v : ℕ). Agrees lim (slice_set words op.word v) s') (sym kept)
             (agrees_loaded lim words s s' before.agrees op.word
             (record { given = refl; out = refl; pages = refl; blocks = refl }) refl);
@@ -278,7 +280,6 @@ module _ (setting : Setting) (t : ℕ) (words : List ℕ) (s : State) (before : 
                 asks.older other,
                 life_kept place life other parts.0 (cases_eq place other),
               );
-              none_due = ap (noted_for place life) before.none_noted;
             },
             l.stands.0.1,
             replaced_same s.blocks place (block_in life (Freeing t)),
@@ -290,7 +291,7 @@ module _ (setting : Setting) (t : ℕ) (words : List ℕ) (s : State) (before : 
           life = omega (arith, parts.0);
           freed = λ u ne held. let known : Live ≡ Freeing u = sym live ∙ held in absurd (cc (known));
           begun = λ u ne held. ne (cc (held));
-        }) refl refl refl;
+        }) refl refl;
         agrees = subst (λ (v : ℕ). Agrees lim (slice_set words (first_block_word lim + place) v) s')
             (sym (swap_made (state_word life words_of.Live) (state_word life words_of.Freeing) (block_number place) is))
             (agrees_changed lim words s s' before.agrees place (block_in life (Freeing t)) lt before.roomy refl refl
@@ -380,7 +381,7 @@ module _ (setting : Setting) (t : ℕ) (words : List ℕ) (s : State) (before : 
       record {
         allowed = λ _. (
           (frees_it address place asks l.stands.0.2, held),
-          inl (ap (λ (d : Doing). d.due) (doing_so_far setting s t rest runs.doing runs.going) ∙ asks.none_due),
+          inr before.weak,
         );
         linked = answered_linked setting t s before.walks before.range s' 0 rest runs.doing (units + 1) cursors
             runs.going (λ other is. none_left place other l.frees_so (cases_eq place other) is) l.looks;
@@ -389,7 +390,7 @@ module _ (setting : Setting) (t : ℕ) (words : List ℕ) (s : State) (before : 
           life = omega arith;
           freed = λ u ne is. let known : Freeing t ≡ Freeing u = sym held ∙ is in ne (cc (known));
           begun = λ u ne is. absurd (cc (is));
-        }) refl refl refl;
+        }) refl refl;
         agrees = subst (λ n. Agrees lim (slice_set words (first_block_word lim + place) (state_word n words_of.Free))
             after) same
             (agrees_changed lim words s after before.agrees place freed lt before.roomy refl refl refl refl refl);

@@ -1,19 +1,22 @@
 -- What the words of pages and blocks say of the plain state.
-use Rattle.std.proofs.Common.{◌≡◌, ℕ, zero, suc, ◌+◌, ◌-◌, ◌*◌, ◌/◌, ◌%◌, ◌^◌, ◌<◌, ◌≤◌, ◌==◌, Bool, true, false, nat_lt}
+use Rattle.std.proofs.Common.{◌≡◌, ℕ, zero, suc, ◌+◌, ◌-◌, ◌*◌, ◌/◌, ◌%◌, ◌^◌, ◌<◌, ◌≤◌, ◌==◌, Bool, true, false}
+use Rattle.std.proofs.Common.{nat_lt}
 use Rattle.std.proofs.Common.{if◌then◌else◌, Option, Some, None, refl, sym, ap, ◌∙◌, subst, arith}
 use Rattle.std.proofs.Common.{eqb-true, ltb-true}
 use Rattle.std.proofs.lemmas.Bool.{eq-eqb}
 use Rattle.ds_map.specs.Bounds.{Bounds}
 use Rattle.ds_map.specs.Blocks.{Pages, class_words, class_blocks, place_of, page_of}
 use Rattle.ds_map.specs.Blocks.{index_of, block_start, page_at, place_in, if_starting, place_from}
-use Rattle.ds_map.specs.Blocks.{place_starting, page_word}
+use Rattle.ds_map.specs.Blocks.{place_holding, place_starting, page_word}
 use Rattle.ds_map.specs.Regions.{heap, lies_in}
 use Rattle.ds_pages.specs.declared.BlockState.{BlockState}
 use Rattle.ds_pages.specs.declared.BlockState.TheVariants as words
-use Rattle.ds_pages.specs.Words.{is_page_word, class_in, block_at, state_code, state_word, state_of_code, in_life, read_state}
+use Rattle.ds_pages.specs.Words.{is_page_word, class_in, block_at, state_code, state_word, state_of_code, in_life}
+use Rattle.ds_pages.specs.Words.{read_state}
 use Rattle.ds_plain.specs.State.{Use, Free, Live, Freeing, Block, use_word, block_word}
 use Rattle.ds_plain.specs.Searching.{PageSeen, Unsized, Wanted, Other, NoPageWord, page_seen, BlockSeen, Unused, Used}
 use Rattle.ds_plain.specs.Searching.{NoBlockWord, seen_as, block_seen}
+use Rattle.ds_plain.specs.Noting as noting
 use Rattle.ds_plain.specs.Freeing as freeing
 use Rattle.ds_plain.specs.Freeing.{LifeSeen, LiveIn, NotLive, seen_life, life_seen}
 
@@ -241,7 +244,7 @@ sees_life word = by (read_state word) refl
 pub live_seen : (life : ℕ) → life < 2 ^ 32 → life_seen (state_word life words.Live) ≡ LiveIn life
 live_seen life lt = ap seen_life (read_back life words.Live lt)
 
--- WHERE A BLOCK STARTS
+-- PLACES
 
 -- a page has at most 256 blocks
 pub few_blocks : (class : ℕ) → class_blocks class ≤ 256
@@ -268,6 +271,105 @@ page_of_place page index lt = omega (arith, lt)
 
 pub index_of_place : (page index : ℕ) → index < 256 → index_of (place_of page index) ≡ index
 index_of_place page index lt = omega (arith, lt)
+
+-- WHERE A BLOCK HOLDS AN ADDRESS
+
+-- how far an address of the heap lies behind the start of its page
+abbrev offset_of : (address : ℕ) → ℕ
+offset_of address = (address - 0x1000000) % 4096
+
+-- what holds an address of the heap, by the class of its page
+holding_is : (lim : Bounds) (pages : Pages) (address : ℕ) (class : Option ℕ) → lies_in (heap lim) address ≡ true
+    → pages (page_at address) ≡ class
+    → place_holding lim pages address ≡ place_in (page_at address) (offset_of address) class
+holding_is lim pages address class lies is =
+    ap (λ b. if b then place_in (page_at address) (offset_of address) (pages (page_at address)) else None) lies
+    ∙ ap (place_in (page_at address) (offset_of address)) is
+
+-- a block that holds an address of a page is one of that page
+page_held : (page offset class place : ℕ) → place_in page offset (Some class) ≡ Some place → page_of place ≡ page
+page_held page offset class place e = by (nat_lt (offset / (8 * class_words class)) (class_blocks class)) refl e
+  where
+    by : (b : Bool) → nat_lt (offset / (8 * class_words class)) (class_blocks class) ≡ b
+        → (if b then Some (place_of page (offset / (8 * class_words class))) else None) ≡ Some place
+        → page_of place ≡ page
+    by true lt e' =
+        let less = ltb-true (offset / (8 * class_words class)) (class_blocks class) lt in
+        let here : place_of page (offset / (8 * class_words class)) ≡ place = cc (e') in
+        ap page_of (sym here)
+        ∙ page_of_place page (offset / (8 * class_words class)) (omega (arith, less, few_blocks class))
+    by false lt e' = absurd (cc (e'))
+
+-- where the pages keep their classes the block still holds it
+pub holding_on : (lim : Bounds) (pages pages' : Pages) (address place : ℕ)
+    → ((page class : ℕ) → pages page ≡ Some class → pages' page ≡ Some class)
+    → place_holding lim pages address ≡ Some place → place_holding lim pages' address ≡ Some place
+holding_on lim pages pages' address place kept e = by_lies (lies_in (heap lim) address) refl e
+  where
+    by_class : (class : Option ℕ) → pages (page_at address) ≡ class → lies_in (heap lim) address ≡ true
+        → place_in (page_at address) (offset_of address) class ≡ Some place
+        → place_holding lim pages' address ≡ Some place
+    by_class None is lies e' = absurd (cc (e'))
+    by_class (Some class) is lies e' =
+        holding_is lim pages' address (Some class) lies (kept (page_at address) class is) ∙ e'
+
+    by_lies : (b : Bool) → lies_in (heap lim) address ≡ b
+        → (if b then place_in (page_at address) (offset_of address) (pages (page_at address)) else None)
+        ≡ Some place → place_holding lim pages' address ≡ Some place
+    by_lies true lies e' = by_class (pages (page_at address)) refl lies e'
+    by_lies false lies e' = absurd (cc (e'))
+
+-- the block at a place holds an address of the heap, and starts there
+pub record Held (lim : Bounds) (pages : Pages) (address place start : ℕ) : Type 0 where
+  pub holds : place_holding lim pages address ≡ Some place
+  pub page : page_of place ≡ page_at address
+  pub class : ℕ
+  pub class_is : pages (page_of place) ≡ Some class
+  pub start_is : start ≡ block_start place class
+
+-- what a note makes of the word of a page
+pub record SeesHeld (lim : Bounds) (pages : Pages) (value : ℕ) (seen : noting.HeldSeen) : Type 0 where
+  pub held : (place start : ℕ) → seen ≡ noting.HeldIn place start → Held lim pages value place start
+  pub none : seen ≡ noting.HeldByNone → place_holding lim pages value ≡ None
+
+pub sees_held : (lim : Bounds) (pages : Pages) (value word : ℕ) → lies_in (heap lim) value ≡ true
+    → class_in word ≡ pages (page_at value) → SeesHeld lim pages value (noting.held_seen value word)
+sees_held lim pages value word lies is = by_word (is_page_word word)
+  where
+    by_none : (word : ℕ) → place_holding lim pages value ≡ None
+        → SeesHeld lim pages value (noting.held_by word None)
+    by_none word none = record { held = λ place start e. absurd (cc (e)); none = λ e. none }
+
+    by_place : (class : ℕ) (o : Option ℕ) → pages (page_at value) ≡ Some class
+        → place_in (page_at value) (offset_of value) (Some class) ≡ o
+        → SeesHeld lim pages value (noting.held_by (suc class) o)
+    by_place class None has e = by_none (suc class) (holding_is lim pages value (Some class) lies has ∙ e)
+    by_place class (Some place) has e = record {
+      held = λ place' start' e'. let same : place ≡ place' = cc (e') in
+          let starts : block_start place (suc class - 1) ≡ start' = cc (e') in
+          let less : suc class - 1 ≡ class = omega arith in
+          subst (λ p. Held lim pages value p start') same (record {
+            holds = holding_is lim pages value (Some class) lies has ∙ e;
+            page = page_held (page_at value) (offset_of value) class place e;
+            class = class;
+            class_is = ap pages (page_held (page_at value) (offset_of value) class place e) ∙ has;
+            start_is = sym starts ∙ ap (block_start place) less;
+          });
+      none = λ e'. absurd (cc (e'));
+    }
+
+    by_class : (word : ℕ) → class_in word ≡ pages (page_at value)
+        → SeesHeld lim pages value (noting.held_by word (place_in (page_at value) (offset_of value) (class_in word)))
+    by_class zero has = by_none zero (holding_is lim pages value None lies (sym has))
+    by_class (suc class) has = by_place class (place_in (page_at value) (offset_of value) (Some class)) (sym has) refl
+
+    by_word : (b : Bool) → SeesHeld lim pages value
+        (if b then noting.held_by word (place_in (page_at value) (offset_of value) (class_in word))
+        else noting.NoPageWord)
+    by_word true = by_class word is
+    by_word false = record { held = λ place start e. absurd (cc (e)); none = λ e. absurd (cc (e)) }
+
+-- WHERE A BLOCK STARTS AT AN ADDRESS
 
 -- the block that starts at an address, by the class of its page
 abbrev start_at : (address place : ℕ) → ℕ → Option ℕ

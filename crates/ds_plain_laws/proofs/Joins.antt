@@ -80,7 +80,7 @@ module _ (setting : Setting) (t : ℕ) (words : List ℕ) (s : State) (before : 
     linked = join_goes setting.program lim t s cursors l.looks rest (units + 1) began (LoadEnded n) (b, asking) b
         (goes_run rest (s.threads t) asking.runs) l.frees_so;
     others = λ u ne. all_same setting t s u;
-    leaves = leaves_all t s s refl refl refl;
+    leaves = leaves_all t s s refl refl;
     agrees = agrees_loaded lim words s s before.agrees word
         (record { given = refl; out = refl; pages = refl; blocks = refl }) refl;
     prints = omega arith;
@@ -118,7 +118,7 @@ module _ (setting : Setting) (t : ℕ) (words : List ℕ) (s : State) (before : 
           looks = l.looks;
         };
         others = replaced_passes setting t s s phase (all_same setting t s);
-        leaves = leaves_all t s s' refl refl refl;
+        leaves = leaves_all t s s' refl refl;
         agrees = agrees_loaded lim words s s' before.agrees given_word
             (record { given = refl; out = refl; pages = refl; blocks = refl }) refl;
         prints = omega arith;
@@ -150,7 +150,7 @@ module _ (setting : Setting) (t : ℕ) (words : List ℕ) (s : State) (before : 
         linked = answered_linked setting t s before.walks before.range s 0 rest asking.runs.doing (units + 1) cursors
             asking.runs.going l.frees_so l.looks;
         others = replaced_passes setting t s s (phase_answered lim s 0 (s.threads t)) (all_same setting t s);
-        leaves = leaves_all t s s' refl refl refl;
+        leaves = leaves_all t s s' refl refl;
         agrees = agrees_loaded lim words s s' before.agrees (start_word n)
             (record { given = refl; out = refl; pages = refl; blocks = refl }) refl;
         prints = omega arith;

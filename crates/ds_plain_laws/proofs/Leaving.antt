@@ -1,48 +1,44 @@
--- What a step leaves of pages, blocks and notes, and where a thread begins to free.
+-- What a step leaves of pages and blocks, and where a thread begins to free.
 use Rattle.std.proofs.Common.{◌≡◌, ℕ, ◌≤◌, Some, None, refl, ap, sym}
 use Rattle.std.proofs.Common.{◌∙◌, subst, inl, inr, ◌⊎◌, arith}
 use Rattle.std.proofs.lemmas.Bool.{cases_eq}
 use Rattle.ds_plain.specs.declared.FreeAt.TheVariants as frees
 use Rattle.ds_plain.specs.declared.Position.{Position}
-use Rattle.ds_plain.specs.declared.Position.TheVariants.{Start, Malloc, Free, Spawn, Join, DrawPrint, StoreEnded, Over}
-use Rattle.ds_plain.specs.declared.Position.TheVariants.{NoRow}
+use Rattle.ds_plain.specs.declared.Position.TheVariants.{Start, Malloc, Note, Free, Spawn, Join}
+use Rattle.ds_plain.specs.declared.Position.TheVariants.{DrawPrint, StoreEnded, Over, NoRow}
 use Rattle.ds_plain.specs.declared.Position.TheVariants as positions
 use Rattle.ds_plain.specs.State.{Freeing, Block, State, replaced}
 use Rattle.ds_plain.specs.State as states
 use Rattle.ds_plain_laws.proofs.Choices.{replaced_same, replaced_other}
 
--- what a step of thread t leaves alone: a page keeps its class, lives do not fall, what another thread frees stays as it is,
--- and no other thread begins to free
+-- what a step of thread t leaves alone: a page keeps its class, lives do not fall, what another thread frees stays as
+-- it is, and no other thread begins to free
 pub record Leaves (t : ℕ) (s s' : State) : Type 0 where
   pub pages : (page class : ℕ) → s.pages page ≡ Some class → s'.pages page ≡ Some class
   pub lives : (place : ℕ) → (s.blocks place).life ≤ (s'.blocks place).life
   pub freed : (u place : ℕ) → (t ≡ u → ⊥) → (s.blocks place).state ≡ Freeing u → s'.blocks place ≡ s.blocks place
   pub begun : (u place : ℕ) → (t ≡ u → ⊥) → (s'.blocks place).state ≡ Freeing u
       → (s.blocks place).state ≡ Freeing u
-  pub noted : s'.noted ≡ s.noted
 
 -- as a step does that changes none of them
-pub leaves_all : (t : ℕ) (s s' : State) → s'.pages ≡ s.pages → s'.blocks ≡ s.blocks → s'.noted ≡ s.noted
-    → Leaves t s s'
-leaves_all t s s' pages blocks noted = record {
+pub leaves_all : (t : ℕ) (s s' : State) → s'.pages ≡ s.pages → s'.blocks ≡ s.blocks → Leaves t s s'
+leaves_all t s s' pages blocks = record {
   pages = λ page class is. ap (λ pages. pages page) pages ∙ is;
   lives = λ place. omega (arith, ap (λ (blocks : ℕ → Block). (blocks place).life) blocks);
   freed = λ u place ne is. ap (λ (blocks : ℕ → Block). blocks place) blocks;
   begun = λ u place ne is. ap (λ (blocks : ℕ → Block). (blocks place).state) (sym blocks) ∙ is;
-  noted = noted;
 }
 
 -- one that gives a page a class which had none
 pub leaves_page : (t : ℕ) (s s' : State) (page class : ℕ) → s.pages page ≡ None
-    → s'.pages ≡ replaced s.pages page (Some class) → s'.blocks ≡ s.blocks → s'.noted ≡ s.noted → Leaves t s s'
-leaves_page t s s' page class none pages blocks noted =
-    let same = leaves_all t s (record s' { pages = s.pages }) refl blocks noted in
+    → s'.pages ≡ replaced s.pages page (Some class) → s'.blocks ≡ s.blocks → Leaves t s s'
+leaves_page t s s' page class none pages blocks =
+    let same = leaves_all t s (record s' { pages = s.pages }) refl blocks in
     record {
       pages = λ page' class' is. ap (λ pages. pages page') pages ∙ kept page' class' is (cases_eq page page');
       lives = same.lives;
       freed = same.freed;
       begun = same.begun;
-      noted = noted;
     }
   where
     kept : (page' class' : ℕ) → s.pages page' ≡ Some class' → ((page ≡ page') ⊎ (page ≡ page' → ⊥))
@@ -59,13 +55,12 @@ pub record MayChange (t : ℕ) (old new : Block) : Type 0 where
 
 -- one that changes a block
 pub leaves_block : (t : ℕ) (s s' : State) (place : ℕ) (block : Block) → MayChange t (s.blocks place) block
-    → s'.pages ≡ s.pages → s'.blocks ≡ replaced s.blocks place block → s'.noted ≡ s.noted → Leaves t s s'
-leaves_block t s s' place block may pages blocks noted = record {
+    → s'.pages ≡ s.pages → s'.blocks ≡ replaced s.blocks place block → Leaves t s s'
+leaves_block t s s' place block may pages blocks = record {
   pages = λ page class is. ap (λ pages. pages page) pages ∙ is;
   lives = λ p. subst (λ (bs : ℕ → Block). (s.blocks p).life ≤ (bs p).life) (sym blocks) (lives p (cases_eq place p));
   freed = λ u p ne is. ap (λ (bs : ℕ → Block). bs p) blocks ∙ freed u p ne is (cases_eq place p);
   begun = λ u p ne is. begun u p ne (ap (λ (bs : ℕ → Block). (bs p).state) (sym blocks) ∙ is) (cases_eq place p);
-  noted = noted;
 }
   where
     lives : (p : ℕ) → ((place ≡ p) ⊎ (place ≡ p → ⊥)) → (s.blocks p).life ≤ (replaced s.blocks place block p).life
@@ -101,6 +96,7 @@ abbrev pub FreesAt : (t : ℕ) → (ℕ → Block) → Position → Type 0
 FreesAt t blocks (Start at) = FreesNone t blocks
 FreesAt t blocks (positions.Access at) = FreesNone t blocks
 FreesAt t blocks (Malloc at) = FreesNone t blocks
+FreesAt t blocks (Note at) = FreesNone t blocks
 FreesAt t blocks (Free (frees.LoadPage address)) = FreesNone t blocks
 FreesAt t blocks (Free (frees.LoadBlock address place)) = FreesNone t blocks
 FreesAt t blocks (Free (frees.SwapBlock address place life)) = FreesNone t blocks
@@ -117,6 +113,7 @@ pub frees_anywhere : (t : ℕ) (blocks : ℕ → Block) (p : Position) → Frees
 frees_anywhere t blocks (Start at) none = none
 frees_anywhere t blocks (positions.Access at) none = none
 frees_anywhere t blocks (Malloc at) none = none
+frees_anywhere t blocks (Note at) none = none
 frees_anywhere t blocks (Free (frees.LoadPage address)) none = none
 frees_anywhere t blocks (Free (frees.LoadBlock address place)) none = none
 frees_anywhere t blocks (Free (frees.SwapBlock address place life)) none = none
@@ -140,6 +137,7 @@ frees_on u t s s' p ne leaves held = by p held
     by (Start at) f = none f
     by (positions.Access at) f = none f
     by (Malloc at) f = none f
+    by (Note at) f = none f
     by (Free (frees.LoadPage address)) f = none f
     by (Free (frees.LoadBlock address place)) f = none f
     by (Free (frees.SwapBlock address place life)) f = none f

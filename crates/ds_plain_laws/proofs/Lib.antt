@@ -12,6 +12,7 @@ pub mod Opening
 pub mod Makes
 pub mod Accesses
 pub mod Mallocs
+pub mod Notes
 pub mod Frees
 pub mod Moves
 pub mod Starts

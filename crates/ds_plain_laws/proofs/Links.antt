@@ -2,7 +2,7 @@
 use Rattle.std.proofs.Common.{◌≡◌, ℕ, ◌+◌, ◌≤◌, Bool, true, false, if◌then◌else◌, nat_lt, nat_le}
 use Rattle.std.proofs.Common.{List, [], Option, Some, None, refl, sym, ap, ◌∙◌, arith, slice_index}
 use Rattle.ds_map.specs.Bounds.{Bounds, IsInRange}
-use Rattle.ds_map.specs.Blocks.{Pages, class_of, place_starting}
+use Rattle.ds_map.specs.Blocks.{Pages, class_of, page_of, block_start, place_holding, place_starting}
 use Rattle.ds_plain.specs.declared.Access.{Access}
 use Rattle.ds_plain.specs.declared.Place.{Place}
 use Rattle.ds_plain.specs.declared.Stop.{Stop}
@@ -11,26 +11,33 @@ use Rattle.ds_plain.specs.declared.Request.{Request}
 use Rattle.ds_plain.specs.declared.Request.TheVariants as requests
 use Rattle.ds_plain.specs.declared.StartAt.{StartAt}
 use Rattle.ds_plain.specs.declared.SpawnAt.{SpawnAt}
-use Rattle.ds_plain.specs.declared.SpawnAt.TheVariants.{DrawThread, StoreNumber, StoreFunction, StoreArgument, OpenThread}
+use Rattle.ds_plain.specs.declared.SpawnAt.TheVariants.{DrawThread, StoreNumber, StoreFunction, StoreArgument}
+use Rattle.ds_plain.specs.declared.SpawnAt.TheVariants.{OpenThread}
 use Rattle.ds_plain.specs.declared.JoinAt.{JoinAt}
 use Rattle.ds_plain.specs.declared.JoinAt.TheVariants.{LoadGiven, LoadEnded}
 use Rattle.ds_plain.specs.declared.Change.{Change}
 use Rattle.ds_plain.specs.declared.Change.TheVariants.{Put, Combine, Replace}
 use Rattle.ds_plain.specs.declared.AccessAt.{AccessAt}
-use Rattle.ds_plain.specs.declared.AccessAt.TheVariants.{LoadWord, StoreWord, CombineWord, ReplaceWord, LoadPart, SwapPart}
+use Rattle.ds_plain.specs.declared.AccessAt.TheVariants.{LoadWord, StoreWord, CombineWord, ReplaceWord, LoadPart}
+use Rattle.ds_plain.specs.declared.AccessAt.TheVariants.{SwapPart}
 use Rattle.ds_plain.specs.declared.AllocAt.{AllocAt}
 use Rattle.ds_plain.specs.declared.AllocAt.TheVariants as allocs
+use Rattle.ds_plain.specs.declared.NoteAt.{NoteAt}
+use Rattle.ds_plain.specs.declared.NoteAt.TheVariants as notes
 use Rattle.ds_plain.specs.declared.FreeAt.{FreeAt}
 use Rattle.ds_plain.specs.declared.FreeAt.TheVariants as frees
 use Rattle.ds_plain.specs.declared.Position.{Position}
-use Rattle.ds_plain.specs.declared.Position.TheVariants.{Start, Malloc, Free, Spawn, Join, DrawPrint, StoreEnded, Over}
-use Rattle.ds_plain.specs.declared.Position.TheVariants.{NoRow}
+use Rattle.ds_plain.specs.declared.Position.TheVariants.{Start, Malloc, Note, Free, Spawn, Join}
+use Rattle.ds_plain.specs.declared.Position.TheVariants.{DrawPrint, StoreEnded, Over, NoRow}
 use Rattle.ds_plain.specs.declared.Position.TheVariants as positions
 use Rattle.ds_plain.specs.Behaviour.{Asked, Asks, Silent, Behaviour, told, Program}
 use Rattle.ds_plain.specs.Parts.{is_whole}
-use Rattle.ds_plain.specs.State.{Freeing, Block, block_in, Phase, Stopped, State, stop_of_phase, first_left, places_wanted}
+use Rattle.ds_plain.specs.State.{Freeing, Block, block_in, Phase, Stopped, State, stop_of_phase, first_left}
+use Rattle.ds_plain.specs.State.{places_wanted}
 use Rattle.ds_plain.specs.Accessing.{is_refused}
 use Rattle.ds_plain.specs.Searching.{search_from, page_in}
+use Rattle.ds_plain.specs.Listing.{list_place, list_life}
+use Rattle.ds_plain.specs.Noting.{is_notable, IsNoteAt}
 use Rattle.ds_plain.specs.Freeing.{is_freeable}
 use Rattle.ds_plain.specs.Reached.{IsAllocAt, AreCursors, ahead_of, IsFreeAt}
 use Rattle.ds_plain.specs.Table.{looking_for, position_of, end_by}
@@ -38,10 +45,12 @@ use Rattle.ds_plain.specs.Thread.{Thread, paying, standing, arriving, going_on, 
 use Rattle.ds_alloc_laws.specs.Laws.{MallocsBegin, MallocsLookOn, MallocsHaveLeft, CursorsBegin, CursorsMove}
 use Rattle.ds_alloc_laws.specs.Laws.{ClassesAreFew, class_at}
 use Rattle.ds_plain_laws.proofs.Choices.{of_if}
-use Rattle.ds_plain_laws.proofs.Heap.{starts_on}
+use Rattle.ds_plain_laws.proofs.Heap.{holding_on, starts_on}
 use Rattle.ds_plain_laws.proofs.Leaving.{Leaves, FreesNone, FreesAt, frees_anywhere, frees_on}
-use Rattle.ds_plain_laws.proofs.Phases.{Runs, Asking, Halts, Goes, goes_run, Draws, Fresh, IsWaiting, MayPass, runs_same}
-use Rattle.ds_plain_laws.proofs.Phases.{asking_on, halts_on, goes_on, draws_on, fresh_on, waits_idle, waiting_on, stopped_on}
+use Rattle.ds_plain_laws.proofs.Phases.{Runs, Asking, Halts, Goes, goes_run, Draws, Fresh, IsWaiting, MayPass}
+use Rattle.ds_plain_laws.proofs.Phases.{runs_same}
+use Rattle.ds_plain_laws.proofs.Phases.{asking_on, halts_on, goes_on, draws_on, fresh_on, waits_idle, waiting_on}
+use Rattle.ds_plain_laws.proofs.Phases.{stopped_on}
 
 -- what is known of a malloc's rows
 pub record Walks : Type 0 where
@@ -52,8 +61,8 @@ pub record Walks : Type 0 where
   pub start : CursorsBegin
   pub move : CursorsMove
 
--- why a thread stands at its last step: it asked for that stop, or came to it, or its fuel ran out, while it ran or before
--- it began
+-- why a thread stands at its last step: it asked for that stop, or came to it, or its fuel ran out, while it ran or
+-- before it began
 pub data Ending (program : Program) (t : ℕ) (rest : Behaviour) (began : Bool) (phase : Phase) (stop : Stop)
     : Type 0 where
   Finishes : began ≡ true → Asking rest phase (requests.Stop stop) → Ending program t rest began phase stop
@@ -111,12 +120,43 @@ pub record MallocLinked (lim : Bounds) (rest : Behaviour) (began : Bool) (pages 
   pub left : asking.runs.doing.left ≡ ahead_of lim at
   pub sized : IsSized lim pages at
 
--- the phase of a thread that frees the block at an address: no life has fallen since it asked, and nothing is due
+-- the phase of a thread that notes a value: the word of its page has told the block that holds the value
+pub record NoteHolds (lim : Bounds) (rest : Behaviour) (began : Bool) (pages : Pages) (phase : Phase)
+    (loc place start : ℕ) : Type 0 where
+  pub has_begun : began ≡ true
+  pub value : ℕ
+  pub asking : Asking rest phase (requests.Note loc value)
+  pub holds : place_holding lim pages value ≡ Some place
+  pub class : ℕ
+  pub class_is : pages (page_of place) ≡ Some class
+  pub start_is : start ≡ block_start place class
+
+-- it has found that block live, in this life
+pub record NoteFound (rest : Behaviour) (began : Bool) (phase : Phase) (loc place life : ℕ) : Type 0 where
+  pub has_begun : began ≡ true
+  pub value : ℕ
+  pub asking : Asking rest phase (requests.Note loc value)
+  pub found : asking.runs.doing.found ≡ Some (place, life)
+
+-- no word of a log is named: whatever its own log holds, the thread goes on with the note that it was asked for
+abbrev pub NoteLinked : Bounds → Behaviour → Bool → Pages → Phase → NoteAt → Type 0
+NoteLinked lim rest began pages phase (notes.LoadPage loc value) =
+    (began ≡ true) × Asking rest phase (requests.Note loc value)
+NoteLinked lim rest began pages phase (notes.LoadBlock loc place start) =
+    NoteHolds lim rest began pages phase loc place start
+NoteLinked lim rest began pages phase (notes.Seek loc at) =
+    NoteFound rest began phase loc (list_place at) (list_life at)
+NoteLinked lim rest began pages phase (notes.StoreLife loc place life log) = NoteFound rest began phase loc place life
+NoteLinked lim rest began pages phase (notes.StoreEntry loc place life log used) =
+    NoteFound rest began phase loc place life
+NoteLinked lim rest began pages phase (notes.CountEntry loc place life log used) =
+    NoteFound rest began phase loc place life
+
+-- the phase of a thread that frees the block at an address: no life has fallen since it asked
 pub record FreeAsking (rest : Behaviour) (began : Bool) (blocks : ℕ → Block) (phase : Phase) (address : ℕ) : Type 0 where
   pub has_begun : began ≡ true
   pub asking : Asking rest phase (requests.Free address)
   pub older : (place : ℕ) → asking.runs.doing.lives place ≤ (blocks place).life
-  pub none_due : asking.runs.doing.due ≡ []
 
 -- it saw the block live in this life, which was no earlier one when it asked
 pub record FreeSaw (rest : Behaviour) (began : Bool) (blocks : ℕ → Block) (phase : Phase) (address place life : ℕ)
@@ -158,6 +198,7 @@ module _ (program : Program) (lim : Bounds) (t : ℕ) where
   Linked rest began s (Start at) = StartLinked program t began (s.threads t)
   Linked rest began s (positions.Access at) = AccessLinked rest began (s.threads t) at
   Linked rest began s (Malloc at) = MallocLinked lim rest began s.pages (s.threads t) at
+  Linked rest began s (Note at) = NoteLinked lim rest began s.pages (s.threads t) at × IsNoteAt lim at
   Linked rest began s (Free at) =
       FreeLinked lim t rest began s.pages s.blocks (s.threads t) at × IsFreeAt lim at
   Linked rest began s (Spawn at) = SpawnLinked lim rest began s.blocks (s.threads t) at
@@ -195,6 +236,26 @@ spawn_stop lim rest began blocks phase (StoreFunction n function arg) l = runs_s
 spawn_stop lim rest began blocks phase (StoreArgument n arg) l = runs_stop (told rest 0) phase l.1.runs
 spawn_stop lim rest began blocks phase (OpenThread n) l = runs_stop (told rest 0) phase l.1.runs
 
+-- a thread that notes runs
+pub note_runs : (lim : Bounds) (rest : Behaviour) (began : Bool) (pages : Pages) (phase : Phase) (at : NoteAt)
+    → NoteLinked lim rest began pages phase at → Runs rest phase
+note_runs lim rest began pages phase (notes.LoadPage loc value) l = l.1.runs
+note_runs lim rest began pages phase (notes.LoadBlock loc place start) l = l.asking.runs
+note_runs lim rest began pages phase (notes.Seek loc at) l = l.asking.runs
+note_runs lim rest began pages phase (notes.StoreLife loc place life log) l = l.asking.runs
+note_runs lim rest began pages phase (notes.StoreEntry loc place life log used) l = l.asking.runs
+note_runs lim rest began pages phase (notes.CountEntry loc place life log used) l = l.asking.runs
+
+-- and has begun
+pub note_begun : (lim : Bounds) (rest : Behaviour) (began : Bool) (pages : Pages) (phase : Phase) (at : NoteAt)
+    → NoteLinked lim rest began pages phase at → began ≡ true
+note_begun lim rest began pages phase (notes.LoadPage loc value) l = l.0
+note_begun lim rest began pages phase (notes.LoadBlock loc place start) l = l.has_begun
+note_begun lim rest began pages phase (notes.Seek loc at) l = l.has_begun
+note_begun lim rest began pages phase (notes.StoreLife loc place life log) l = l.has_begun
+note_begun lim rest began pages phase (notes.StoreEntry loc place life log used) l = l.has_begun
+note_begun lim rest began pages phase (notes.CountEntry loc place life log used) l = l.has_begun
+
 last_stop : (b b' : Bool) → b ≡ b' → (if b then Running else Idle) ≡ (if b' then Running else Idle)
 last_stop b b' is = ap (λ b. if b then Running else Idle) is
 
@@ -213,6 +274,8 @@ linked_stop program lim t rest began s (positions.Access (LoadPart access change
 linked_stop program lim t rest began s (positions.Access (SwapPart access change seen)) l =
     runs_stop rest (s.threads t) l.0.asking.runs
 linked_stop program lim t rest began s (Malloc at) l = runs_stop rest (s.threads t) l.asking.runs
+linked_stop program lim t rest began s (Note at) l =
+    runs_stop rest (s.threads t) (note_runs lim rest began s.pages (s.threads t) at l.0)
 linked_stop program lim t rest began s (Free (frees.LoadPage address)) l =
     runs_stop rest (s.threads t) l.0.asking.runs
 linked_stop program lim t rest began s (Free (frees.LoadBlock address place)) l =
@@ -270,6 +333,38 @@ module _ (program : Program) (lim : Bounds) (u t : ℕ) (s s' : State) (ne : u �
     sized = sized_on at l.sized;
   }
 
+  holds_on : (rest : Behaviour) (began : Bool) (loc place start : ℕ)
+      → NoteHolds lim rest began s.pages (s.threads t) loc place start
+      → NoteHolds lim rest began s'.pages (s'.threads t) loc place start
+  holds_on rest began loc place start l = record {
+    has_begun = l.has_begun;
+    value = l.value;
+    asking = asking_on rest (s.threads t) (s'.threads t) (requests.Note loc l.value) l.asking passes;
+    holds = holding_on lim s.pages s'.pages l.value place leaves.pages l.holds;
+    class = l.class;
+    class_is = leaves.pages (page_of place) l.class l.class_is;
+    start_is = l.start_is;
+  }
+
+  found_on : (rest : Behaviour) (began : Bool) (loc place life : ℕ)
+      → NoteFound rest began (s.threads t) loc place life → NoteFound rest began (s'.threads t) loc place life
+  found_on rest began loc place life l = record {
+    has_begun = l.has_begun;
+    value = l.value;
+    asking = asking_on rest (s.threads t) (s'.threads t) (requests.Note loc l.value) l.asking passes;
+    found = (runs_same rest (s.threads t) (s'.threads t) l.asking.runs passes).found ∙ l.found;
+  }
+
+  note_on : (rest : Behaviour) (began : Bool) (at : NoteAt)
+      → NoteLinked lim rest began s.pages (s.threads t) at → NoteLinked lim rest began s'.pages (s'.threads t) at
+  note_on rest began (notes.LoadPage loc value) l =
+      (l.0, asking_on rest (s.threads t) (s'.threads t) (requests.Note loc value) l.1 passes)
+  note_on rest began (notes.LoadBlock loc place start) l = holds_on rest began loc place start l
+  note_on rest began (notes.Seek loc at) l = found_on rest began loc (list_place at) (list_life at) l
+  note_on rest began (notes.StoreLife loc place life log) l = found_on rest began loc place life l
+  note_on rest began (notes.StoreEntry loc place life log used) l = found_on rest began loc place life l
+  note_on rest began (notes.CountEntry loc place life log used) l = found_on rest began loc place life l
+
   abbrev asked_on : (rest : Behaviour) (began : Bool) (address : ℕ) → FreeAsking rest began s.blocks (s.threads t) address
       → FreeAsking rest began s'.blocks (s'.threads t) address
   asked_on rest began address l =
@@ -278,7 +373,6 @@ module _ (program : Program) (lim : Bounds) (u t : ℕ) (s s' : State) (ne : u �
         has_begun = l.has_begun;
         asking = asking_on rest (s.threads t) (s'.threads t) (requests.Free address) l.asking passes;
         older = λ place. omega (arith, ap (λ (f : ℕ → ℕ). f place) same.lives, l.older place, leaves.lives place);
-        none_due = same.none_due l.none_due;
       }
 
   saw_on : (rest : Behaviour) (began : Bool) (address place life : ℕ)
@@ -343,6 +437,7 @@ module _ (program : Program) (lim : Bounds) (u t : ℕ) (s s' : State) (ne : u �
   stands_on rest began (positions.Access (SwapPart access change seen)) l =
       (part_on rest began access change l.0, l.1)
   stands_on rest began (Malloc at) l = malloc_on rest began at l
+  stands_on rest began (Note at) l = (note_on rest began at l.0, l.1)
   stands_on rest began (Free at) l = (free_on rest began at l.0, l.1)
   stands_on rest began (Spawn at) l = spawn_on rest began at l
   stands_on rest began (Join (LoadGiven number)) l =
@@ -385,13 +480,21 @@ module _ (program : Program) (lim : Bounds) (t : ℕ) (s : State) (cursors : Lis
   waiting_linked rest units began at b waiting none =
       paying_linked rest units began (Start at) (b, waiting) none (Never b waiting refl)
 
-  -- a thread that runs and goes on with a malloc or a free
+  -- a thread that runs and goes on with a malloc, a note or a free
   pub malloc_goes : (rest : Behaviour) (units : ℕ) (began : Bool) (at : AllocAt)
       → MallocLinked lim rest began s.pages (s.threads t) at → FreesNone t s.blocks
       → IsLinked program lim t s (standing lim cursors rest units began (Malloc at))
   malloc_goes rest units began at l none =
       paying_linked rest units began (Malloc at) l none
       (Spent l.has_begun (goes_run rest (s.threads t) l.asking.runs) refl)
+
+  pub note_goes : (rest : Behaviour) (units : ℕ) (began : Bool) (at : NoteAt)
+      → Linked program lim t rest began s (Note at) → FreesNone t s.blocks
+      → IsLinked program lim t s (standing lim cursors rest units began (Note at))
+  note_goes rest units began at l none =
+      paying_linked rest units began (Note at) l none
+      (Spent (note_begun lim rest began s.pages (s.threads t) at l.0)
+      (goes_run rest (s.threads t) (note_runs lim rest began s.pages (s.threads t) at l.0)) refl)
 
   pub free_goes : (rest : Behaviour) (units : ℕ) (began : Bool) (at : FreeAt)
       → Linked program lim t rest began s (Free at) → FreesAt t s.blocks (Free at) → began ≡ true
@@ -473,7 +576,19 @@ module _ (program : Program) (lim : Bounds) (t : ℕ) (s : State) (cursors : Lis
           sized = tt;
         })
 
-    -- a free begins with no life fallen and nothing due
+    -- a note begins where its location and its value lie where they may
+    noting_linked : (units loc value begun : ℕ) (place : Place) (b : Bool)
+        → rest [] ≡ Asks begun place (requests.Note loc value) → is_notable lim loc value ≡ b
+        → IsLinked program lim t s (standing lim cursors rest units true
+        (if b then Note (notes.LoadPage loc value) else NoRow))
+    noting_linked units loc value begun place true asks is =
+        asking_linked units (Note (notes.LoadPage loc value))
+        ((refl, record { runs = fresh; begun = begun; place = place; asks = asks }), is)
+    noting_linked units loc value begun place false asks is =
+        rowless_linked units (requests.Note loc value)
+        (record { runs = fresh; begun = begun; place = place; asks = asks })
+
+    -- a free begins with no life fallen
     freeing_linked : (units address begun : ℕ) (place : Place) (b : Bool)
         → rest [] ≡ Asks begun place (requests.Free address) → is_freeable lim address ≡ b
         → IsLinked program lim t s (standing lim cursors rest units true
@@ -484,7 +599,6 @@ module _ (program : Program) (lim : Bounds) (t : ℕ) (s : State) (cursors : Lis
             has_begun = refl;
             asking = record { runs = fresh; begun = begun; place = place; asks = asks };
             older = come.older;
-            none_due = come.none_due;
           },
           is,
         )
@@ -518,8 +632,7 @@ module _ (program : Program) (lim : Bounds) (t : ℕ) (s : State) (cursors : Lis
     standing_linked units begun place (requests.Free address) asks =
         freeing_linked units address begun place (is_freeable lim address) asks refl
     standing_linked units begun place (requests.Note loc value) asks =
-        rowless_linked units (requests.Note loc value)
-        (record { runs = fresh; begun = begun; place = place; asks = asks })
+        noting_linked units loc value begun place (is_notable lim loc value) asks refl
     standing_linked units begun place (requests.Print value) asks =
         asking_linked units (DrawPrint value) (record { runs = fresh; begun = begun; place = place; asks = asks })
     standing_linked units begun place (requests.Spawn loc function arg) asks =

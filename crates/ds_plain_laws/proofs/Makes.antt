@@ -52,7 +52,8 @@ pub record Before (setting : Setting) (words : List ℕ) (s : State) : Type 0 wh
   pub range : IsInRange setting.lim
   pub agrees : Agrees setting.lim words s
   pub roomy : first_program_word setting.lim ≤ length words
-  pub none_noted : s.noted ≡ []
+  -- frees are taken at their word
+  pub weak : setting.weak ≡ true
 
 -- THREADS AFTER A STEP OF THREAD T
 
@@ -99,7 +100,7 @@ module _ (setting : Setting) (t : ℕ) (words : List ℕ) (s : State) (before : 
         linked = answered_linked setting t s before.walks before.range s old rest runs.doing (units + 1) cursors
             runs.going l.frees_so l.looks;
         others = replaced_passes setting t s s (phase_answered setting.lim s old (s.threads t)) (all_same setting t s);
-        leaves = leaves_all t s (changed setting s t (events.Load loc old)) refl refl refl;
+        leaves = leaves_all t s (changed setting s t (events.Load loc old)) refl refl;
         agrees = agrees_loaded setting.lim words s (changed setting s t (events.Load loc old)) before.agrees
             (word_of setting.lim loc) (record { given = refl; out = refl; pages = refl; blocks = refl }) refl;
         prints = omega arith;
@@ -129,7 +130,7 @@ module _ (setting : Setting) (t : ℕ) (words : List ℕ) (s : State) (before : 
         linked = answered_linked setting t s before.walks before.range s' 0 rest (not_due loc runs.doing) (units + 1)
             cursors (ap (phase_with (not_due loc)) runs.going) l.frees_so l.looks;
         others = replaced_passes setting t s s' phase (λ u. passes_not_due loc (s.threads u));
-        leaves = leaves_all t s (answered setting.lim t 0 s') refl refl refl;
+        leaves = leaves_all t s (answered setting.lim t 0 s') refl refl;
         agrees = agrees_stored setting.lim words s (answered setting.lim t 0 s') before.agrees loc value
             (record { given = refl; out = refl; pages = refl; blocks = refl }) refl;
         prints = omega arith;
@@ -151,7 +152,7 @@ module _ (setting : Setting) (t : ℕ) (words : List ℕ) (s : State) (before : 
             runs.going l.frees_so l.looks;
         others = replaced_passes setting t s s' (phase_answered setting.lim s' 0 (s.threads t))
             (all_same setting t s);
-        leaves = leaves_all t s (changed setting s t (events.Print old value)) refl refl refl;
+        leaves = leaves_all t s (changed setting s t (events.Print old value)) refl refl;
         agrees = agrees_printed setting.lim words s (changed setting s t (events.Print old value)) before.agrees value
             (omega (arith, before.roomy)) few refl refl refl refl refl;
         prints = omega (arith, length_push s.out value);
@@ -220,7 +221,7 @@ module _ (setting : Setting) (t : ℕ) (words : List ℕ) (s : State) (before : 
           looks = l.looks;
         };
         others = replaced_passes setting t s s stopped (all_same setting t s);
-        leaves = leaves_all t s (changed setting s t events.End) refl refl refl;
+        leaves = leaves_all t s (changed setting s t events.End) refl refl;
         agrees = agrees_marked setting.lim words s (changed setting s t events.End) before.agrees (start_word t) 2
             (omega arith) (omega arith) (record { given = refl; out = refl; pages = refl; blocks = refl }) refl;
         prints = omega arith;

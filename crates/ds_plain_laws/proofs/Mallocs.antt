@@ -1,6 +1,7 @@
 -- What each row of a malloc does: its event is allowed, and words, state and threads go together afterwards.
 use Rattle.std.proofs.Common.{◌≡◌, ℕ, suc, ◌+◌, ◌*◌, ◌%◌, ◌<◌, ◌==◌, Bool, true, false, not, ◌&&◌, if◌then◌else◌}
-use Rattle.std.proofs.Common.{nat_lt, List, [], ◌∷◌, Option, Some, None, slice_index, slice_set, refl, sym, ap, ◌∙◌, subst}
+use Rattle.std.proofs.Common.{nat_lt, List, [], ◌∷◌, Option, Some, None, slice_index, slice_set, refl, sym, ap}
+use Rattle.std.proofs.Common.{◌∙◌, subst}
 use Rattle.std.proofs.Common.{inl, inr, ◌⊎◌, arith, eqb-true, mod-lt}
 use Rattle.std.specs.List.{filter}
 use Rattle.std.proofs.lemmas.Bool.{cases_eq, eq-eqb}
@@ -23,9 +24,11 @@ use Rattle.ds_plain.specs.State.{Free, Live, Freeing, Block, block_in, block_wor
 use Rattle.ds_plain.specs.State.{State, Setting, replaced}
 use Rattle.ds_plain.specs.Plain.{Allowed, WantsBlock, IsBlock, so_far, answered, phase_with}
 use Rattle.ds_plain.specs.Plain.{phase_answered, has_left, with_block, without, changed}
-use Rattle.ds_plain.specs.Searching.{page_in, first_index, end_index, place_in_search, place_behind, visits, AllocNext, Looks}
+use Rattle.ds_plain.specs.Searching.{page_in, first_index, end_index, place_in_search, place_behind, visits}
+use Rattle.ds_plain.specs.Searching.{AllocNext, Looks}
 use Rattle.ds_plain.specs.Searching.{Takes, TakesNone, behind_page, behind_other_page, behind_block, PageSeen, Unsized}
-use Rattle.ds_plain.specs.Searching.{Wanted, Other, NoPageWord, page_seen, BlockSeen, Unused, Used, NoBlockWord, block_seen}
+use Rattle.ds_plain.specs.Searching.{Wanted, Other, NoPageWord, page_seen, BlockSeen, Unused, Used, NoBlockWord}
+use Rattle.ds_plain.specs.Searching.{block_seen}
 use Rattle.ds_plain.specs.Searching.{page_word_in, block_word_in, alloc_op, page_loaded, page_swapped, block_loaded}
 use Rattle.ds_plain.specs.Searching.{block_swapped, alloc_event, behind_page_load, behind_page_swap, behind_block_load}
 use Rattle.ds_plain.specs.Searching.{behind_block_swap, alloc_next}
@@ -34,7 +37,8 @@ use Rattle.ds_plain.specs.Thread.{Thread, standing, going_on, moved_from_malloc}
 use Rattle.ds_plain.specs.Explained.{Agrees}
 use Rattle.ds_alloc_laws.specs.Laws.{LooksOn, class_at}
 use Rattle.ds_plain_laws.proofs.Choices.{of_if, replaced_same, replaced_other}
-use Rattle.ds_plain_laws.proofs.Heap.{SeesPage, sees_page, page_none, page_some, SeesBlock, sees_block, free_seen, word_parts}
+use Rattle.ds_plain_laws.proofs.Heap.{SeesPage, sees_page, page_none, page_some, SeesBlock, sees_block, free_seen}
+use Rattle.ds_plain_laws.proofs.Heap.{word_parts}
 use Rattle.ds_plain_laws.proofs.Heap.{use_free, few_blocks, page_of_place, index_of_place}
 use Rattle.ds_plain_laws.proofs.Words.{agrees_loaded, agrees_sized, agrees_changed, swap_kept, swap_made}
 use Rattle.ds_plain_laws.proofs.Phases.{asks_for, doing_so_far}
@@ -104,7 +108,7 @@ module _ (setting : Setting) (t : ℕ) (words : List ℕ) (s : State) (before : 
           sized = sized;
         }) l.frees_so;
         others = λ u ne. all_same setting t s u;
-        leaves = leaves_all t s s refl refl refl;
+        leaves = leaves_all t s s refl refl;
         agrees = subst (λ (v : ℕ). Agrees lim (slice_set words op.word v) s) (sym kept)
             (agrees_loaded lim words s s before.agrees op.word
             (record { given = refl; out = refl; pages = refl; blocks = refl }) refl);
@@ -147,7 +151,7 @@ module _ (setting : Setting) (t : ℕ) (words : List ℕ) (s : State) (before : 
           sized = sized;
         }) l.frees_so;
         others = replaced_passes setting t s s (phase_with more (s.threads t)) (all_same setting t s);
-        leaves = leaves_all t s s' refl refl refl;
+        leaves = leaves_all t s s' refl refl;
         agrees = subst (λ (v : ℕ). Agrees lim (slice_set words op.word v) s') (sym kept)
             (agrees_loaded lim words s s' before.agrees op.word
             (record { given = refl; out = refl; pages = refl; blocks = refl }) refl);
@@ -166,7 +170,7 @@ module _ (setting : Setting) (t : ℕ) (words : List ℕ) (s : State) (before : 
         linked = answered_linked setting t s before.walks before.range s 0 rest runs.doing (units + 1) cursors
             runs.going l.frees_so l.looks;
         others = replaced_passes setting t s s (phase_answered lim s 0 (s.threads t)) (all_same setting t s);
-        leaves = leaves_all t s (has_left lim t s []) refl refl refl;
+        leaves = leaves_all t s (has_left lim t s []) refl refl;
         agrees = subst (λ (v : ℕ). Agrees lim (slice_set words op.word v) (has_left lim t s [])) (sym kept)
             (agrees_loaded lim words s (has_left lim t s []) before.agrees op.word
             (record { given = refl; out = refl; pages = refl; blocks = refl }) refl);
@@ -290,7 +294,7 @@ module _ (setting : Setting) (t : ℕ) (words : List ℕ) (s : State) (before : 
               sized = replaced_same s.pages page (Some search.class);
             }) l.frees_so;
         others = λ u ne. all_same setting t s u;
-        leaves = leaves_page t s s' page search.class none refl refl refl;
+        leaves = leaves_page t s s' page search.class none refl refl;
         agrees = subst (λ (v : ℕ). Agrees lim (slice_set words (first_page_word + page) v) s')
             (sym (swap_made 0 (suc search.class) (page_number search) zero_word))
             (agrees_sized lim words s s' before.agrees page search.class (inside search) before.roomy refl refl refl
@@ -432,7 +436,7 @@ module _ (setting : Setting) (t : ℕ) (words : List ℕ) (s : State) (before : 
           life = omega (arith, parts.0);
           freed = λ u ne held. let known : Free ≡ Freeing u = sym free ∙ held in absurd (cc (known));
           begun = λ u ne held. absurd (cc (held));
-        }) refl refl refl;
+        }) refl refl;
         agrees = subst (λ (v : ℕ). Agrees lim (slice_set words (first_block_word lim + place) v) after)
             (sym (swap_made (state_word life words_of.Free) (state_word (suc life) words_of.Live)
             (block_number search index) is))

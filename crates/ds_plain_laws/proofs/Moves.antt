@@ -1,5 +1,5 @@
--- What a step does to words, state and threads, the words by which threads are started among them; and that each step of a
--- thread that runs, and starts none, leaves these as they are.
+-- What a step does to words, state and threads, the words by which threads are started among them; and that each step
+-- of a thread that runs, and starts none, leaves these as they are.
 use Rattle.std.proofs.Common.{◌≡◌, ℕ, ◌+◌, ◌<◌, ◌≤◌, Bool, true, false, nat_lt, nat_le, List, [], Option, Some, None}
 use Rattle.std.proofs.Common.{length, slice_index, slice_set, refl, sym, ap, ◌∙◌, inl, inr, ◌⊎◌, arith}
 use Rattle.std.proofs.lemmas.List.{get_or-set_other, set-get_or}
@@ -8,23 +8,26 @@ use Rattle.ds_map.specs.Blocks.{class_of}
 use Rattle.ds_step.specs.declared.WordOp.{WordOp}
 use Rattle.ds_step.specs.declared.Event.{Event}
 use Rattle.ds_step.specs.Word.{words_after}
-use Rattle.ds_plain.specs.declared.Access.{Access}
 use Rattle.ds_plain.specs.declared.Stop.{Stop}
 use Rattle.ds_plain.specs.declared.Stop.TheVariants.{Idle, Running, Returned, Trap, Full, Fuel}
 use Rattle.ds_plain.specs.declared.Request.{Request}
 use Rattle.ds_plain.specs.declared.Request.TheVariants as requests
 use Rattle.ds_plain.specs.declared.AccessAt.{AccessAt}
-use Rattle.ds_plain.specs.declared.AccessAt.TheVariants.{LoadWord, StoreWord, CombineWord, ReplaceWord, LoadPart, SwapPart}
+use Rattle.ds_plain.specs.declared.AccessAt.TheVariants.{LoadWord, StoreWord, CombineWord, ReplaceWord, LoadPart}
+use Rattle.ds_plain.specs.declared.AccessAt.TheVariants.{SwapPart}
+use Rattle.ds_plain.specs.declared.NoteAt.TheVariants as notes
 use Rattle.ds_plain.specs.declared.FreeAt.TheVariants as frees
-use Rattle.ds_plain.specs.declared.SpawnAt.TheVariants.{DrawThread, StoreNumber, StoreFunction, StoreArgument, OpenThread}
+use Rattle.ds_plain.specs.declared.SpawnAt.TheVariants.{DrawThread, StoreNumber, StoreFunction, StoreArgument}
+use Rattle.ds_plain.specs.declared.SpawnAt.TheVariants.{OpenThread}
 use Rattle.ds_plain.specs.declared.JoinAt.TheVariants.{LoadGiven, LoadEnded}
 use Rattle.ds_plain.specs.declared.Position.{Position}
-use Rattle.ds_plain.specs.declared.Position.TheVariants.{Start, Malloc, Free, Spawn, Join, DrawPrint, StoreEnded, Over}
-use Rattle.ds_plain.specs.declared.Position.TheVariants.{NoRow}
+use Rattle.ds_plain.specs.declared.Position.TheVariants.{Start, Malloc, Note, Free, Spawn, Join}
+use Rattle.ds_plain.specs.declared.Position.TheVariants.{DrawPrint, StoreEnded, Over, NoRow}
 use Rattle.ds_plain.specs.declared.Position.TheVariants as positions
 use Rattle.ds_plain.specs.Behaviour.{Asked, Asks, Silent, Behaviour, Program}
 use Rattle.ds_plain.specs.State.{State, Setting, replaced}
 use Rattle.ds_plain.specs.Plain.{Allowed}
+use Rattle.ds_plain.specs.Noting.{is_notable}
 use Rattle.ds_plain.specs.Freeing.{is_freeable}
 use Rattle.ds_plain.specs.Table.{looking_for, position_of, end_by}
 use Rattle.ds_plain.specs.Thread.{Thread, paying, standing, arriving, going_on}
@@ -33,13 +36,13 @@ use Rattle.ds_plain.specs.Explained.{Agrees}
 use Rattle.ds_plain_laws.proofs.Choices.{of_if}
 use Rattle.ds_plain_laws.proofs.Phases.{MayPass, passes_may, Goes, goes_run}
 use Rattle.ds_plain_laws.proofs.Leaving.{Leaves}
-use Rattle.ds_plain_laws.proofs.Links.{Finishes, Trapped, Spent, Never, Linked, IsLinked}
+use Rattle.ds_plain_laws.proofs.Links.{Finishes, Trapped, Spent, Never, Linked, IsLinked, note_runs}
 use Rattle.ds_plain_laws.proofs.Makes.{Makes, Before}
 use Rattle.ds_plain_laws.proofs.Seats.{IsSeated, Seats, seats_by}
 use Rattle.ds_plain_laws.proofs.Seating.{running_step}
 
--- A step of thread t, with its operation and its event, on these words and from one state to another: the event is allowed,
--- and words, state, threads and seats go together afterwards.
+-- A step of thread t, with its operation and its event, on these words and from one state to another: the event is
+-- allowed, and words, state, threads and seats go together afterwards.
 pub record Moves (setting : Setting) (t : ℕ) (words : List ℕ) (s : State) (threads : ℕ → Thread) (op : WordOp)
     (event : Event) (s' : State) (a : Thread) : Type 0 where
   pub allowed : is_log event ≡ false → Allowed setting s t event
@@ -54,14 +57,20 @@ pub record Moves (setting : Setting) (t : ℕ) (words : List ℕ) (s : State) (t
 
 -- WORDS THAT STAY
 
--- the operation is on a word that starts no thread and counts none
-abbrev pub IsApart : WordOp → Type 0
-IsApart op = (op.word ≡ 2) ⊎ (64 ≤ op.word)
+-- the word counts the threads, or starts one
+abbrev pub IsOfThreads : (word : ℕ) → Type 0
+IsOfThreads word = (word ≡ 1) ⊎ ((16 ≤ word) × (word < 64))
 
-pub apart_kept : (words : List ℕ) (op : WordOp) (i : ℕ) → IsApart op → i < 64 → (i ≡ 2 → ⊥)
+-- the operation is on none of these
+abbrev pub IsApart : WordOp → Type 0
+IsApart op = ((1 < op.word) × (op.word < 16)) ⊎ (64 ≤ op.word)
+
+pub apart_kept : (words : List ℕ) (op : WordOp) (i : ℕ) → IsApart op → IsOfThreads i
     → slice_index (words_after words op) i ≡ slice_index words i
-apart_kept words op i (inl is) lt ne = get_or-set_other words op.word i _ 0 (λ e. ne (e ∙ is))
-apart_kept words op i (inr le) lt ne = get_or-set_other words op.word i _ 0 (λ e. omega (arith, e, le, lt))
+apart_kept words op i (inl few) (inl one) = get_or-set_other words op.word i _ 0 (λ e. omega (arith, e, few.0, one))
+apart_kept words op i (inl few) (inr of) = get_or-set_other words op.word i _ 0 (λ e. omega (arith, e, few.1, of.0))
+apart_kept words op i (inr le) (inl one) = get_or-set_other words op.word i _ 0 (λ e. omega (arith, e, le, one))
+apart_kept words op i (inr le) (inr of) = get_or-set_other words op.word i _ 0 (λ e. omega (arith, e, le, of.1))
 
 -- a load leaves all words
 pub load_kept : (words : List ℕ) (word i : ℕ)
@@ -75,6 +84,7 @@ abbrev pub IsQuiet : Position → Type 0
 IsQuiet (Start at) = ⊥
 IsQuiet (positions.Access at) = Unit {0}
 IsQuiet (Malloc at) = Unit {0}
+IsQuiet (Note at) = Unit {0}
 IsQuiet (Free at) = Unit {0}
 IsQuiet (Spawn (DrawThread loc function arg)) = Unit {0}
 IsQuiet (Spawn (StoreNumber n loc function arg)) = ⊥
@@ -106,6 +116,7 @@ module _ (lim : Bounds) (cursors : List ℕ) where
   standing_lands rest units began (positions.Access at) b quiet =
       paying_lands rest units began (positions.Access at) b quiet
   standing_lands rest units began (Malloc at) b quiet = paying_lands rest units began (Malloc at) b quiet
+  standing_lands rest units began (Note at) b quiet = paying_lands rest units began (Note at) b quiet
   standing_lands rest units began (Free at) b quiet = paying_lands rest units began (Free at) b quiet
   standing_lands rest units began (Spawn at) b quiet = paying_lands rest units began (Spawn at) b quiet
   standing_lands rest units began (Join at) b quiet = paying_lands rest units began (Join at) b quiet
@@ -133,7 +144,8 @@ module _ (lim : Bounds) (cursors : List ℕ) where
   request_quiet (requests.Cas access expected new) = tt
   request_quiet (requests.Malloc bytes) = looking_quiet (class_of bytes)
   request_quiet (requests.Free address) = of_if IsQuiet (is_freeable lim address) (Free (frees.LoadPage address)) NoRow tt tt
-  request_quiet (requests.Note loc value) = tt
+  request_quiet (requests.Note loc value) =
+      of_if IsQuiet (is_notable lim loc value) (Note (notes.LoadPage loc value)) NoRow tt tt
   request_quiet (requests.Print value) = tt
   request_quiet (requests.Spawn loc function arg) = tt
   request_quiet (requests.Join number) = tt
@@ -168,7 +180,8 @@ module _ (lim : Bounds) (cursors : List ℕ) where
       looking_not (Some class) = λ n is. cc
   request_not (requests.Free address) =
       of_if WaitsNot (is_freeable lim address) (Free (frees.LoadPage address)) NoRow (λ n is. cc) (λ n is. cc)
-  request_not (requests.Note loc value) = λ n is. cc
+  request_not (requests.Note loc value) =
+      of_if WaitsNot (is_notable lim loc value) (Note (notes.LoadPage loc value)) NoRow (λ n is. cc) (λ n is. cc)
   request_not (requests.Print value) = λ n is. cc
   request_not (requests.Spawn loc function arg) = λ n is. cc
   request_not (requests.Join number) = λ n is. cc
@@ -196,6 +209,7 @@ module _ (lim : Bounds) (cursors : List ℕ) where
   standing_not rest units began (positions.Access at) waits =
       paying_not rest units began (positions.Access at) waits
   standing_not rest units began (Malloc at) waits = paying_not rest units began (Malloc at) waits
+  standing_not rest units began (Note at) waits = paying_not rest units began (Note at) waits
   standing_not rest units began (Free at) waits = paying_not rest units began (Free at) waits
   standing_not rest units began (Spawn at) waits = paying_not rest units began (Spawn at) waits
   standing_not rest units began (Join at) waits = paying_not rest units began (Join at) waits
@@ -235,6 +249,8 @@ lands_goes program lim t rest began s (positions.Access at) b quiet l = access_g
     access_goes (LoadPart access change) l = goes_run rest (s.threads t) l.asking.runs
     access_goes (SwapPart access change seen) l = goes_run rest (s.threads t) l.0.asking.runs
 lands_goes program lim t rest began s (Malloc at) b quiet l = goes_run rest (s.threads t) l.asking.runs
+lands_goes program lim t rest began s (Note at) b quiet l =
+    goes_run rest (s.threads t) (note_runs lim rest began s.pages (s.threads t) at l.0)
 lands_goes program lim t rest began s (Free (frees.LoadPage address)) b quiet l =
     goes_run rest (s.threads t) l.0.asking.runs
 lands_goes program lim t rest began s (Free (frees.LoadBlock address place)) b quiet l =
@@ -268,6 +284,7 @@ pub quiet_seated : (words : List ℕ) (s : State) (maker : ℕ → ℕ) (u : ℕ
 quiet_seated words s maker u (Start at) quiet waits = absurd quiet
 quiet_seated words s maker u (positions.Access at) quiet waits = tt
 quiet_seated words s maker u (Malloc at) quiet waits = tt
+quiet_seated words s maker u (Note at) quiet waits = tt
 quiet_seated words s maker u (Free at) quiet waits = tt
 quiet_seated words s maker u (Spawn (DrawThread loc function arg)) quiet waits = tt
 quiet_seated words s maker u (Spawn (StoreNumber n loc function arg)) quiet waits = absurd quiet
@@ -288,12 +305,12 @@ module _ (setting : Setting) (t : ℕ) (words : List ℕ) (s : State) (threads :
     (before : Before setting words s) (seats : Seats words s threads maker) (few : t < 16) (op : WordOp) (event : Event)
     (s' : State) (a : Thread) where
   pub quiet_moves : Makes setting t words s op event s' a
-      → ((i : ℕ) → i < 64 → (i ≡ 2 → ⊥) → slice_index (words_after words op) i ≡ slice_index words i)
+      → ((i : ℕ) → IsOfThreads i → slice_index (words_after words op) i ≡ slice_index words i)
       → Goes (s.threads t) → Lands a → IsSeated (words_after words op) s' maker t a.position
       → Moves setting t words s threads op event s' a
   quiet_moves makes kept goes lands here =
       let given : s'.given ≡ s.given =
-      sym makes.agrees.given ∙ (kept 1 (omega arith) (λ e. omega (arith, e)) ∙ before.agrees.given) in
+      sym makes.agrees.given ∙ (kept 1 (inl refl) ∙ before.agrees.given) in
       record {
         allowed = makes.allowed;
         linked = makes.linked;
@@ -305,7 +322,7 @@ module _ (setting : Setting) (t : ℕ) (words : List ℕ) (s : State) (threads :
         maker = maker;
         seats = seats_by t words (words_after words op) s s' threads maker maker a
             (running_step t words (words_after words op) s s' threads maker a seats
-            (λ i least lt. kept i lt (λ e. omega (arith, e, least))) (omega (arith, given)) makes.others few goes
+            (λ i least lt. kept i (inr (least, lt))) (omega (arith, given)) makes.others few goes
             (lands_goes setting.program setting.lim t a.rest a.began s' a.position lands.begun lands.quiet
             makes.linked.stands) (λ _. here)) seats;
       }

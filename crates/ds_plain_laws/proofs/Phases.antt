@@ -11,7 +11,7 @@ use Rattle.ds_plain.specs.declared.Request.TheVariants as requests
 use Rattle.ds_plain.specs.Behaviour.{Asks, Behaviour, Program}
 use Rattle.ds_plain.specs.State.{Block, Doing, Phase, NotGiven, Closed, Ready, Going, Stopped, State, Setting}
 use Rattle.ds_plain.specs.State.{stop_of_phase, first_phase, first_left, untouched, come_to}
-use Rattle.ds_plain.specs.Plain.{request_in, request_of, doing_of, IsStopped, AsksFor, so_far, phase_with, without, not_due}
+use Rattle.ds_plain.specs.Plain.{request_in, request_of, doing_of, IsStopped, AsksFor, so_far, phase_with, not_due}
 
 -- the thread runs, with this behaviour left, and its request has drawn no number and stopped nothing
 pub record Runs (rest : Behaviour) (phase : Phase) : Type 0 where
@@ -54,13 +54,13 @@ asks_for setting s t rest request asking =
       not_ended = ap (λ phase. (doing_of setting.lim s phase).ended) runs.going ∙ runs.not_ended;
     }
 
--- what a request has come to is what it had come to before, but that nothing more is due
+-- what a request has come to is what it had come to before, but for what is due
 pub record SameDoing (doing doing' : Doing) : Type 0 where
   pub left : doing'.left ≡ doing.left
   pub lives : doing'.lives ≡ doing.lives
+  pub found : doing'.found ≡ doing.found
   pub spawned : doing'.spawned ≡ doing.spawned
   pub ended : doing'.ended ≡ doing.ended
-  pub none_due : doing.due ≡ [] → doing'.due ≡ []
 
 -- how a step of another thread leaves the phase of a thread
 abbrev pub Passes : Phase → Phase → Type 0
@@ -76,7 +76,7 @@ passes_same NotGiven = refl
 passes_same (Closed function argument) = refl
 passes_same (Ready function argument) = refl
 passes_same (Going rest doing) =
-    (doing, refl, record { left = refl; lives = refl; spawned = refl; ended = refl; none_due = λ e. e })
+    (doing, refl, record { left = refl; lives = refl; found = refl; spawned = refl; ended = refl })
 passes_same (Stopped stop) = refl
 
 -- or with a location that is no longer due
@@ -87,7 +87,7 @@ passes_not_due loc (Ready function argument) = refl
 passes_not_due loc (Going rest doing) = (
   not_due loc doing,
   refl,
-  record { left = refl; lives = refl; spawned = refl; ended = refl; none_due = λ e. ap (without loc) e },
+  record { left = refl; lives = refl; found = refl; spawned = refl; ended = refl },
 )
 passes_not_due loc (Stopped stop) = refl
 
@@ -217,7 +217,6 @@ pub record Fresh (lim : Bounds) (blocks : ℕ → Block) (rest : Behaviour) (pha
   pub runs : Runs rest phase
   pub left : runs.doing.left ≡ first_left lim (rest [])
   pub older : (place : ℕ) → runs.doing.lives place ≤ (blocks place).life
-  pub none_due : runs.doing.due ≡ []
 
 pub fresh_come : (lim : Bounds) (s : State) (rest : Behaviour) (phase : Phase) → phase ≡ come_to lim s rest
     → Fresh lim s.blocks rest phase
@@ -225,7 +224,6 @@ fresh_come lim s rest phase come = record {
   runs = record { doing = untouched lim s (rest []); going = come; not_spawned = refl; not_ended = refl };
   left = refl;
   older = λ place. omega arith;
-  none_due = refl;
 }
 
 abbrev pub fresh_on : (lim : Bounds) (blocks blocks' : ℕ → Block) (rest : Behaviour) (phase phase' : Phase)
@@ -237,7 +235,6 @@ fresh_on lim blocks blocks' rest phase phase' lives fresh passes =
       runs = runs_on rest phase phase' fresh.runs passes;
       left = same.left ∙ fresh.left;
       older = λ place. omega (arith, ap (λ (f : ℕ → ℕ). f place) same.lives, fresh.older place, lives place);
-      none_due = same.none_due fresh.none_due;
     }
 
 -- it has drawn a number for the thread that it starts

@@ -13,13 +13,14 @@ use Rattle.ds_step.specs.Word.{words_after, answer_on}
 use Rattle.ds_plain.specs.declared.Stop.{Stop}
 use Rattle.ds_plain.specs.declared.StartAt.TheVariants.{LoadStart}
 use Rattle.ds_plain.specs.declared.Position.{Position}
-use Rattle.ds_plain.specs.declared.Position.TheVariants.{Start, Access, Malloc, Free, Spawn, Join, DrawPrint, StoreEnded}
-use Rattle.ds_plain.specs.declared.Position.TheVariants.{Over, NoRow}
+use Rattle.ds_plain.specs.declared.Position.TheVariants.{Start, Access, Malloc, Note, Free, Spawn, Join}
+use Rattle.ds_plain.specs.declared.Position.TheVariants.{DrawPrint, StoreEnded, Over, NoRow}
 use Rattle.ds_plain.specs.Behaviour.{Behaviour, silent, Program}
 use Rattle.ds_plain.specs.State.{State, Setting, first_state, replaced, stop_of_phase}
 use Rattle.ds_plain.specs.Plain.{Allowed, changed, IsPlainRun, state_after}
 use Rattle.ds_plain.specs.Table.{op_at, event_at, is_over}
-use Rattle.ds_plain.specs.Thread.{Thread, first_cursors, first_thread, moved, moved_from, Follows, thread_after, stop_of}
+use Rattle.ds_plain.specs.Thread.{Thread, first_cursors, first_thread, moved, moved_from, Follows, thread_after}
+use Rattle.ds_plain.specs.Thread.{stop_of}
 use Rattle.ds_plain.specs.History.{History, steps_of, Interleaves, IsLegal, words_left, is_log, erase}
 use Rattle.ds_plain.specs.Explained.{Agrees, is_fuel, stop_in, setting_of, IsRecord, IsLegalRun, IsExplained}
 use Rattle.ds_plain_laws.proofs.Choices.{replaced_same, replaced_other}
@@ -31,7 +32,8 @@ use Rattle.ds_plain_laws.proofs.Makes.{Before}
 use Rattle.ds_plain_laws.proofs.Seats.{IsSeated, Seats}
 use Rattle.ds_plain_laws.proofs.Moves.{Moves}
 use Rattle.ds_plain_laws.proofs.Starts.{start_moves}
-use Rattle.ds_plain_laws.proofs.Acts.{access_moves, malloc_moves, free_moves, join_moves, print_moves}
+use Rattle.ds_plain_laws.proofs.Acts.{access_moves, malloc_moves, note_moves, free_moves, join_moves}
+use Rattle.ds_plain_laws.proofs.Acts.{print_moves}
 use Rattle.ds_plain_laws.proofs.Spawns.{spawn_moves}
 use Rattle.ds_plain_laws.proofs.Ends.{end_moves, seats_first}
 use Rattle.ds_plain_laws.proofs.Counts.{over_rest, standing_pays, trace_length, history_length}
@@ -42,7 +44,6 @@ pub record Keeps (program : Program) (lim : Bounds) (stops : List Stop) (h : His
     (threads : ℕ → Thread) : Type 0 where
   pub agrees : Agrees lim words s
   pub roomy : first_program_word lim ≤ length words
-  pub none_noted : s.noted ≡ []
   pub linked : (t : ℕ) → IsLinked program lim t s (threads t)
   pub legal : IsLegal words h
   pub follows : (t : ℕ) → Follows program lim t (threads t) (steps_of t h)
@@ -85,6 +86,9 @@ module _ (program : Program) (lim : Bounds) (stops : List Stop) (t : ℕ) (words
       old is l
   moves_at (Malloc at) rest units old began cursors ss few few_given over is l seat follows ends =
       malloc_moves (setting_of program lim stops) t words s threads maker before seats within rest units began cursors at
+      old is l
+  moves_at (Note at) rest units old began cursors ss few few_given over is l seat follows ends =
+      note_moves (setting_of program lim stops) t words s threads maker before seats within rest units began cursors at
       old is l
   moves_at (Free at) rest units old began cursors ss few few_given over is l seat follows ends =
       free_moves (setting_of program lim stops) t words s threads maker before seats within rest units began cursors at
@@ -166,7 +170,7 @@ module _ (walks : Walks) (program : Program) (lim : Bounds) (range : IsInRange l
         range = range;
         agrees = keeps.agrees;
         roomy = keeps.roomy;
-        none_noted = keeps.none_noted;
+        weak = refl;
       } in
       let few_given : s.given + 1 < 2 ^ 64 = omega (arith, keeps.few_given) in
       subst (λ (st : Step). Moves setting e.0 words s threads st.op st.event (changed setting s e.0 st.event) thread)
@@ -207,7 +211,6 @@ module _ (walks : Walks) (program : Program) (lim : Bounds) (range : IsInRange l
   keeps_on = record {
     agrees = moves.agrees;
     roomy = omega (arith, keeps.roomy, length-set {A = ℕ});
-    none_noted = moves.leaves.noted ∙ keeps.none_noted;
     linked = λ u. links_on u (cases_eq e.0 u);
     legal = keeps.legal.1;
     follows = λ u. follows_on u (cases_eq e.0 u);
@@ -282,7 +285,6 @@ module _ (walks : Walks) (program : Program) (lim : Bounds) (stops : List Stop) 
   keeps_first = record {
     agrees = agrees_first program lim;
     roomy = roomy_first lim program.image;
-    none_noted = refl;
     linked = λ t. waiting_linked program lim t (first_state program lim) first_cursors (walks.start lim range) silent 0
         false LoadStart refl (waiting_first program t) (frees_first t);
     legal = legal;

@@ -1,12 +1,14 @@
--- The words by which threads are started: what they say of the threads, who writes them, and that each step keeps it so.
+-- The words by which threads are started: what they say of the threads, who writes them, and that each step keeps it
+-- so.
 use Rattle.std.proofs.Common.{◌≡◌, ℕ, ◌<◌, ◌≤◌, List, sym, ◌∙◌, subst, inl, inr, ◌⊎◌, arith, slice_index}
 use Rattle.std.proofs.lemmas.Bool.{cases_eq}
 use Rattle.ds_plain.specs.declared.StartAt.TheVariants.{LoadStart, LoadFunction, LoadArgument}
-use Rattle.ds_plain.specs.declared.SpawnAt.TheVariants.{DrawThread, StoreNumber, StoreFunction, StoreArgument, OpenThread}
+use Rattle.ds_plain.specs.declared.SpawnAt.TheVariants.{DrawThread, StoreNumber, StoreFunction, StoreArgument}
+use Rattle.ds_plain.specs.declared.SpawnAt.TheVariants.{OpenThread}
 use Rattle.ds_plain.specs.declared.JoinAt.TheVariants.{LoadGiven, LoadEnded}
 use Rattle.ds_plain.specs.declared.Position.{Position}
-use Rattle.ds_plain.specs.declared.Position.TheVariants.{Start, Malloc, Free, Spawn, Join, DrawPrint, StoreEnded, Over}
-use Rattle.ds_plain.specs.declared.Position.TheVariants.{NoRow}
+use Rattle.ds_plain.specs.declared.Position.TheVariants.{Start, Malloc, Note, Free, Spawn, Join}
+use Rattle.ds_plain.specs.declared.Position.TheVariants.{DrawPrint, StoreEnded, Over, NoRow}
 use Rattle.ds_plain.specs.declared.Position.TheVariants as positions
 use Rattle.ds_plain.specs.Behaviour.{Behaviour}
 use Rattle.ds_plain.specs.State.{Doing, Phase, NotGiven, Closed, Ready, Going, Stopped, State, replaced}
@@ -98,6 +100,7 @@ IsSeated words s maker u (Start (LoadArgument function)) =
     (u ≡ 0 → ⊥) × (start_of words u ≡ 1) × (function_of words u ≡ function)
 IsSeated words s maker u (positions.Access at) = Unit {0}
 IsSeated words s maker u (Malloc at) = Unit {0}
+IsSeated words s maker u (Note at) = Unit {0}
 IsSeated words s maker u (Free at) = Unit {0}
 IsSeated words s maker u (Spawn (DrawThread loc function arg)) = Unit {0}
 IsSeated words s maker u (Spawn (StoreNumber n loc function arg)) =
@@ -115,8 +118,8 @@ IsSeated words s maker u (StoreEnded stop) = Unit {0}
 IsSeated words s maker u (Over stop) = Unit {0}
 IsSeated words s maker u NoRow = Unit {0}
 
--- What the words of all threads say: who was not given out has not begun; a start word of 1 says that its thread may begin, what
--- the other words say, and one of 2 that it has ended.
+-- What the words of all threads say: who was not given out has not begun; a start word of 1 says that its thread may
+-- begin, what the other words say, and one of 2 that it has ended.
 pub record Seats (words : List ℕ) (s : State) (threads : ℕ → Thread) (maker : ℕ → ℕ) : Type 0 where
   pub some : 1 ≤ s.given
   pub unstarted : (u : ℕ) → s.given ≤ u → IsUnstarted (s.threads u)
@@ -158,6 +161,7 @@ module _ (t : ℕ) (words words' : List ℕ) (s s' : State) (threads : ℕ → T
       let same = step.begun u few ne l.1 in (l.0, same.0, same.1 ∙ l.2)
   seated_on u few ne (positions.Access at) l = tt
   seated_on u few ne (Malloc at) l = tt
+  seated_on u few ne (Note at) l = tt
   seated_on u few ne (Free at) l = tt
   seated_on u few ne (Spawn (DrawThread loc function arg)) l = tt
   seated_on u few ne (Spawn (StoreNumber n loc function arg)) l =

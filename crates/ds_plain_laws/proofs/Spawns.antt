@@ -13,12 +13,15 @@ use Rattle.ds_step.specs.declared.Event.TheVariants as events
 use Rattle.ds_step.specs.Word.{written_by, words_after, answer_on}
 use Rattle.ds_plain.specs.declared.Stop.TheVariants.{Fuel}
 use Rattle.ds_plain.specs.declared.SpawnAt.{SpawnAt}
-use Rattle.ds_plain.specs.declared.SpawnAt.TheVariants.{DrawThread, StoreNumber, StoreFunction, StoreArgument, OpenThread}
+use Rattle.ds_plain.specs.declared.SpawnAt.TheVariants.{DrawThread, StoreNumber, StoreFunction, StoreArgument}
+use Rattle.ds_plain.specs.declared.SpawnAt.TheVariants.{OpenThread}
 use Rattle.ds_plain.specs.declared.Position.TheVariants.{Spawn, StoreEnded}
 use Rattle.ds_plain.specs.declared.Request.TheVariants as requests
 use Rattle.ds_plain.specs.Behaviour.{Behaviour, told}
-use Rattle.ds_plain.specs.State.{Doing, Phase, NotGiven, Closed, Ready, Going, Stopped, State, Setting, come_to, replaced}
-use Rattle.ds_plain.specs.Plain.{doing_of, request_of, request_in, phase_answered, phase_with, phase_given, phase_opened}
+use Rattle.ds_plain.specs.State.{Doing, Phase, NotGiven, Closed, Ready, Going, Stopped, State, Setting, come_to}
+use Rattle.ds_plain.specs.State.{replaced}
+use Rattle.ds_plain.specs.Plain.{doing_of, request_of, request_in, phase_answered, phase_with, phase_given}
+use Rattle.ds_plain.specs.Plain.{phase_opened}
 use Rattle.ds_plain.specs.Plain.{with_phase, answered, not_due, written, opened, changed}
 use Rattle.ds_plain.specs.Operations.{store_of}
 use Rattle.ds_plain.specs.Starting.{start_word, function_word, argument_word}
@@ -190,7 +193,7 @@ module _ (setting : Setting) (t : ℕ) (words : List ℕ) (s : State) (threads :
               },
             ) l.stands.0 drawn_goes l.frees_so;
         others = λ u ne. drawn_passes u ne (cases_eq n u);
-        leaves = leaves_all t s drawn_state refl refl refl;
+        leaves = leaves_all t s drawn_state refl refl;
         agrees = agrees_drawn lim words s drawn_state before.agrees (omega (arith, before.roomy)) counts refl refl refl
             refl refl;
         prints = omega arith;
@@ -227,7 +230,7 @@ module _ (setting : Setting) (t : ℕ) (words : List ℕ) (s : State) (threads :
           );
           linked = linked;
           others = λ u ne. passes_may (s.threads u) (s'.threads u) (others u ne);
-          leaves = leaves_all t s s' refl refl refl;
+          leaves = leaves_all t s s' refl refl;
           agrees = agrees_drawn lim words s s' before.agrees (omega (arith, before.roomy)) counts refl refl refl refl refl;
           prints = omega arith;
           given = omega arith;
@@ -343,7 +346,7 @@ module _ (setting : Setting) (t : ℕ) (words : List ℕ) (s : State) (threads :
           linked = spawn_goes setting.program lim t stored_state cursors l.looks rest (units + 1) began
               (StoreFunction n function argument) (l.stands.0, stored_fresh) l.stands.0 stored_goes l.frees_so;
           others = λ u ne. stored_passes u ne (cases_eq n u);
-          leaves = leaves_all t s stored_state refl refl refl;
+          leaves = leaves_all t s stored_state refl refl;
           agrees = agrees_stored lim words s stored_state before.agrees loc n
               (record { given = refl; out = refl; pages = refl; blocks = refl }) refl;
           prints = omega arith;
@@ -384,7 +387,7 @@ module _ (setting : Setting) (t : ℕ) (words : List ℕ) (s : State) (threads :
       allowed = λ h. absurd (cc (h));
       linked = spawn_goes setting.program lim t s cursors l.looks rest (units + 1) began next linked b goes l.frees_so;
       others = λ u ne. passes_may (s.threads u) (s.threads u) (all_same setting t s u);
-      leaves = leaves_all t s s refl refl refl;
+      leaves = leaves_all t s s refl refl;
       agrees = agrees_marked lim words s s before.agrees word value (omega (arith, least)) (omega (arith, most))
           (record { given = refl; out = refl; pages = refl; blocks = refl }) refl;
       prints = omega arith;
@@ -464,7 +467,7 @@ module _ (setting : Setting) (t : ℕ) (words : List ℕ) (s : State) (threads :
       linked = going_linked setting.program lim t s cursors l.looks before.walks before.range (told rest 0) fresh
           l.frees_so (units + 1);
       others = λ u ne. passes_may (s.threads u) (s.threads u) (all_same setting t s u);
-      leaves = leaves_all t s s refl refl refl;
+      leaves = leaves_all t s s refl refl;
       agrees = agrees_marked lim words s s before.agrees (start_word n) (written_by Cas 0 1 (start_of words n))
           (omega arith) (omega (arith, few_n))
           (record { given = refl; out = refl; pages = refl; blocks = refl }) refl;

@@ -1,5 +1,6 @@
 -- What each row of a thread that has not begun does: it waits, learns what it is to run, or begins.
-use Rattle.std.proofs.Common.{◌≡◌, ℕ, ◌+◌, ◌^◌, ◌<◌, ◌==◌, Bool, true, false, ◌&&◌, if◌then◌else◌, List, slice_index, slice_set}
+use Rattle.std.proofs.Common.{◌≡◌, ℕ, ◌+◌, ◌^◌, ◌<◌, ◌==◌, Bool, true, false, ◌&&◌, if◌then◌else◌, List}
+use Rattle.std.proofs.Common.{slice_index, slice_set}
 use Rattle.std.proofs.Common.{nat_lt, refl, sym, ap, ◌∙◌, subst, inl, inr, ◌⊎◌, arith, eqb-true}
 use Rattle.std.proofs.lemmas.Bool.{eq-eqb}
 use Rattle.std.proofs.lemmas.List.{set-get_or}
@@ -23,7 +24,8 @@ use Rattle.ds_plain_laws.proofs.Phases.{NotBegun, passes_may, Goes, goes_run, fr
 use Rattle.ds_plain_laws.proofs.Leaving.{leaves_all}
 use Rattle.ds_plain_laws.proofs.Links.{LinkedAt, IsLinked, waiting_linked, going_linked}
 use Rattle.ds_plain_laws.proofs.Makes.{Before, replaced_passes, all_same}
-use Rattle.ds_plain_laws.proofs.Seats.{IsUnstarted, IsOpen, start_of, function_of, argument_of, IsSeated, Seats, seats_by}
+use Rattle.ds_plain_laws.proofs.Seats.{IsUnstarted, IsOpen, start_of, function_of, argument_of, IsSeated, Seats}
+use Rattle.ds_plain_laws.proofs.Seats.{seats_by}
 use Rattle.ds_plain_laws.proofs.Seating.{begun_step, waiting_step}
 use Rattle.ds_plain_laws.proofs.Moves.{Moves, load_kept, Lands, going_lands, quiet_seated, going_no_wait}
 
@@ -81,7 +83,7 @@ module _ (setting : Setting) (t : ℕ) (words : List ℕ) (s : State) (threads :
         allowed = λ h. absurd (cc (h));
         linked = linked;
         others = λ u ne. passes_may (s.threads u) (s.threads u) (all_same setting t s u);
-        leaves = leaves_all t s s refl refl refl;
+        leaves = leaves_all t s s refl refl;
         agrees = agrees_loaded lim words s s before.agrees word
             (record { given = refl; out = refl; pages = refl; blocks = refl }) refl;
         prints = omega arith;
@@ -119,7 +121,7 @@ module _ (setting : Setting) (t : ℕ) (words : List ℕ) (s : State) (threads :
             (fresh_come lim s behaves (s'.threads t) come) l.frees_so (units + 1);
         others = λ u ne. passes_may (s.threads u) (s'.threads u)
             (replaced_passes setting t s s begun (all_same setting t s) u ne);
-        leaves = leaves_all t s s' refl refl refl;
+        leaves = leaves_all t s s' refl refl;
         agrees = agrees_loaded lim words s s' before.agrees word
             (record { given = refl; out = refl; pages = refl; blocks = refl }) refl;
         prints = omega arith;

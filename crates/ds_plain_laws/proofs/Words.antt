@@ -67,6 +67,18 @@ module _ (lim : Bounds) (words : List ℕ) (s s' : State) (agrees : Agrees lim w
     program = drop-set-lt (first_program_word lim) words i v (omega arith) ∙ (agrees.program ∙ sym words_same);
   }
 
+  -- a word between those of the blocks and those of the program, as are those of the logs, says nothing of the plain
+  -- state
+  pub agrees_listed : (i v : ℕ) → first_home_word lim ≤ i → i < first_program_word lim → SameTables s s'
+      → s'.words ≡ s.words → Agrees lim (slice_set words i v) s'
+  agrees_listed i v behind before same words_same = record {
+    given = get_or-set_other words i 1 v 0 (omega (arith, behind)) ∙ (agrees.given ∙ sym same.given);
+    prints = get_or-set_other words i 2 v 0 (omega (arith, behind)) ∙ (agrees.prints ∙ sym (ap length same.out));
+    pages = pages_kept i v (λ k le lt e. omega (arith, lt, e, behind)) same.pages;
+    blocks = blocks_kept i v (λ k le lt e. omega (arith, lt, e, behind)) same.blocks;
+    program = drop-set-lt (first_program_word lim) words i v before ∙ (agrees.program ∙ sym words_same);
+  }
+
   -- a program word lies behind all others
   pub agrees_stored : (loc v : ℕ) → SameTables s s' → s'.words ≡ slice_set s.words loc v
       → Agrees lim (slice_set words (word_of lim loc) v) s'

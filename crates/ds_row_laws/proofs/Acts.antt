@@ -1,7 +1,8 @@
--- What comes of an instruction of an accepted module: what it asks has a row, and no note follows.
-use Rattle.std.proofs.Common.{◌≡◌, ℕ, ◌+◌, ◌*◌, Bool, true, false, ◌==◌, if◌then◌else◌}
+-- What comes of an instruction of an accepted module, and of the note behind it: what it asks has a row.
+use Rattle.std.proofs.Common.{◌≡◌, ℕ, ◌+◌, ◌*◌, ◌<◌, Bool, true, false, ◌==◌, ◌||◌, if◌then◌else◌}
 use Rattle.std.proofs.Common.{not, suc, nat_le, nat_lt, List, [], ◌∷◌, ◌++◌, Option, Some, None, slice_get}
 use Rattle.std.proofs.Common.{refl, sym, subst, arith, inl, inr}
+use Rattle.std.proofs.lemmas.Bool.{and_from, lt-ltb}
 use Rattle.std.proofs.lemmas.Bool.Decides.{nat_tests}
 use Rattle.std.specs.Prelude.{Result, Ok, Err, All}
 use Rattle.ds_ast.specs.declared.name.Name.{Name}
@@ -9,7 +10,6 @@ use Rattle.ds_ast.specs.declared.ty.Scalar.{Scalar}
 use Rattle.ds_ast.specs.declared.ty.Scalar.TheVariants.{I1, Ptr}
 use Rattle.ds_ast.specs.declared.ty.Ty.{Ty}
 use Rattle.ds_ast.specs.declared.value.Value.{Value}
-use Rattle.ds_ast.specs.declared.words.RmwOp.{RmwOp}
 use Rattle.ds_ast.specs.declared.operand.Operand.{Operand}
 use Rattle.ds_ast.specs.declared.instr.Op.{Op}
 use Rattle.ds_ast.specs.declared.instr.Op.TheVariants.{Bin, Icmp, Select, Cast, Alloca, Load, Store, Gep, Call, Phi}
@@ -23,12 +23,13 @@ use Rattle.ds_arith.specs.declared.fault.ArithFault.{ArithFault}
 use Rattle.ds_arith.specs.Operations.{outcome}
 use Rattle.ds_map.specs.Bounds.{Bounds}
 use Rattle.ds_map.specs.Blocks.{is_marked, first_above}
-use Rattle.ds_map.specs.Regions.{stack}
+use Rattle.ds_map.specs.Regions.{stack, heap, lies_in, program_words}
 use Rattle.ds_shape.specs.Site.{function_number}
 use Rattle.ds_shape.specs.Accepted.{IsGoodExternal}
 use Rattle.ds_shape.specs.Externals.{HasOneOf, externals as signatures}
 use Rattle.ds_plain.specs.declared.Access.{Access}
 use Rattle.ds_plain.specs.declared.FreeAt.TheVariants.{LoadPage}
+use Rattle.ds_plain.specs.declared.NoteAt.TheVariants as notes
 use Rattle.ds_plain.specs.declared.Position.TheVariants as positions
 use Rattle.ds_plain.specs.declared.Position.TheVariants.{NoRow}
 use Rattle.ds_plain.specs.declared.TrapKind.TheVariants as kinds
@@ -38,10 +39,9 @@ use Rattle.ds_plain.specs.Behaviour.{Asks, Outcome, Goes, Wants, Stops, Stuck}
 use Rattle.ds_plain.specs.Freeing.{is_freeable}
 use Rattle.ds_plain.specs.Table.{looking_for, position_of, is_over}
 use Rattle.ds_meaning.specs.Values.{Values, part_in}
-use Rattle.ds_meaning.specs.Frames.{Context, Frame, Caller, State, Runs, Notes, TooLarge, first_frame, has_room}
+use Rattle.ds_meaning.specs.Frames.{Context, Caller, State, Runs, first_frame, has_room}
 use Rattle.ds_meaning.specs.Steps.{Current, given, given_by, behind, on, with_result, results, traps}
-use Rattle.ds_meaning.specs.Memory.{located, located_by, access_at, is_exchange, after_store, after_rmw}
-use Rattle.ds_meaning.specs.Memory.{allocates, words_for, offset_by}
+use Rattle.ds_meaning.specs.Memory.{located, located_by, access_at, noted, notes_at, allocates, words_for, offset_by}
 use Rattle.ds_meaning.specs.Control.{arrives, goes_to, case_for, waiting, enters, arguments}
 use Rattle.ds_meaning.specs.Control.{ReturnValue, returns}
 use Rattle.ds_meaning.specs.Callees.{External, Malloc, Free, PrintI64, PthreadCreate, PthreadJoin, DsNote}
@@ -51,18 +51,12 @@ use Rattle.ds_meaning.specs.Calls.{mallocs, frees, function_in, creates, one_of,
 use Rattle.ds_meaning.specs.Meaning.{computes, act}
 use Rattle.ds_meaning.specs.Program.{context}
 use Rattle.ds_row_laws.proofs.Lists.{item_has}
+use Rattle.ds_row_laws.proofs.Located.{AccessWithin, access_within}
 
--- no note begins
-abbrev pub NoNote : State → Type 0
-NoNote (Runs fr below) = Unit {0}
-NoNote (Notes at' value fr below) = ⊥
-NoNote (TooLarge function) = Unit {0}
-
--- what is asked has a row for a thread that looks for blocks there, and no note follows
+-- what is asked has a row for a thread that looks for blocks there
 abbrev pub Fits : Bounds → (cursors : List ℕ) → Outcome State → Type 0
-Fits lim cursors (Goes s) = NoNote s
-Fits lim cursors (Wants place request answered) =
-    (has_row lim cursors (Asks 1 place request) ≡ true) × ((n : ℕ) → NoNote (answered n))
+Fits lim cursors (Goes s) = Unit {0}
+Fits lim cursors (Wants place request answered) = has_row lim cursors (Asks 1 place request) ≡ true
 Fits lim cursors (Stops place stop) = has_row lim cursors (Asks 1 place (requests.Stop stop)) ≡ true
 Fits lim cursors Stuck = Unit {0}
 
@@ -95,9 +89,24 @@ free_row : (lim : Bounds) (cursors : List ℕ) (address : ℕ) → is_freeable l
 free_row lim cursors address e =
     subst (λ t. not (is_over (if t then positions.Free (LoadPage address) else NoRow)) ≡ true) (sym e) refl
 
-module _ (m : Module) (lim : Bounds) (cursors : List ℕ) (thread : ℕ) (s : Current) where
+-- so has a note of a value of the heap at a location
+note_row : (lim : Bounds) (cursors : List ℕ) (loc value : ℕ) → loc < program_words lim
+    → lies_in (heap lim) value ≡ true
+    → not (is_over (position_of lim cursors (requests.Note loc value))) ≡ true
+note_row lim cursors loc value there e =
+    subst (λ t. not (is_over (if t then positions.Note (notes.LoadPage loc value) else NoRow)) ≡ true)
+    (sym (and_from (nat_lt loc (program_words lim)) (lies_in (heap lim) value)
+    (lt-ltb loc (program_words lim) there) e)) refl
+
+-- a value that is not left out lies in the heap
+left_in : (marked inside : Bool) → (marked || not inside) ≡ false → inside ≡ true
+left_in true inside e = absurd (cc (e))
+left_in false true e = refl
+left_in false false e = absurd (cc (e))
+
+module _ (noting : Bool) (m : Module) (lim : Bounds) (cursors : List ℕ) (thread : ℕ) (s : Current) where
   abbrev c : Context
-  c = context false lim m thread
+  c = context noting lim m thread
 
   -- OPERANDS AND ACCESSES
 
@@ -111,25 +120,34 @@ module _ (m : Module) (lim : Bounds) (cursors : List ℕ) (thread : ℕ) (s : Cu
   given_fits ty v go h = given_by_fits _ go h
 
   located_fits : (ty : Scalar) (a : ℕ) (go : Access → Outcome State)
-      → ((access : Access) → Fits lim cursors (go access)) → Fits lim cursors (located c s ty a go)
+      → ((access : Access) → access.loc < program_words lim → Fits lim cursors (go access))
+      → Fits lim cursors (located c s ty a go)
   located_fits ty a go h = by_mark (is_marked a)
     where
-      by_place : (o : Option Access) → Fits lim cursors (located_by s a o go)
-      by_place None = refl
-      by_place (Some access) = h access
+      by_place : (o : Option Access) → AccessWithin lim o → Fits lim cursors (located_by s a o go)
+      by_place None there = refl
+      by_place (Some access) there = h access there
 
       by_mark : (t : Bool)
-          → Fits lim cursors (if t then traps s (kinds.UseAfterFree a) else located_by s a (access_at c.lim ty a) go)
+          → Fits lim cursors (if t then traps s (kinds.UseAfterFree a) else located_by s a (access_at lim ty a) go)
       by_mark true = refl
-      by_mark false = by_place (access_at c.lim ty a)
+      by_mark false = by_place (access_at lim ty a) (access_within lim ty a)
 
-  -- no note follows an atomicrmw
-  rmw_notes : (op : RmwOp) (ty : Scalar) (at value : Value) (fr : Frame) → NoNote (after_rmw c s op ty at value fr)
-  rmw_notes op ty at value fr = by_test (is_exchange op)
+  -- NOTES
+
+  noted_fits : (loc value : ℕ) → loc < program_words lim → Fits lim cursors (noted c s loc value)
+  noted_fits loc value there = by_test (is_marked value || not (lies_in (heap lim) value)) refl
     where
-      by_test : (t : Bool) → NoNote (if t then after_store c s ty at value fr else behind s fr)
-      by_test true = tt
-      by_test false = tt
+      by_test : (t : Bool) → (is_marked value || not (lies_in (heap lim) value)) ≡ t
+          → Fits lim cursors (if t then Goes (on s) else Wants s.place (requests.Note loc value) (λ z. on s))
+      by_test true e = tt
+      by_test false e =
+          note_row lim cursors loc value there (left_in (is_marked value) (lies_in (heap lim) value) e)
+
+  pub notes_fits : (at value : Value) → Fits lim cursors (notes_at c s at value)
+  notes_fits at value =
+      given_fits Ptr at _ (λ a. given_fits Ptr value _ (λ v. located_fits Ptr a _ (λ access there.
+      noted_fits access.loc v there)))
 
   computes_fits : (o : Result ℕ ArithFault) → Fits lim cursors (computes s o)
   computes_fits (Ok n) = tt
@@ -177,7 +195,7 @@ module _ (m : Module) (lim : Bounds) (cursors : List ℕ) (thread : ℕ) (s : Cu
   one_fits (o ∷ p ∷ rest) go h = tt
 
   print_fits : (args : List Operand) → Fits lim cursors (asks c s args PrintI64)
-  print_fits args = one_fits args _ (λ v. given_fits v.ty v.value _ (λ n. (refl, λ z. tt)))
+  print_fits args = one_fits args _ (λ v. given_fits v.ty v.value _ (λ n. refl))
 
   mallocs_fits : (bytes : ℕ) → Fits lim cursors (mallocs s bytes)
   mallocs_fits bytes = by_test (nat_lt 4095 bytes) refl
@@ -186,7 +204,7 @@ module _ (m : Module) (lim : Bounds) (cursors : List ℕ) (thread : ℕ) (s : Cu
           → Fits lim cursors (if t then Goes (results s 0)
           else Wants s.place (requests.Malloc bytes) (λ address. results s address))
       by_test true e = tt
-      by_test false e = (malloc_row lim cursors bytes e, λ address. tt)
+      by_test false e = malloc_row lim cursors bytes e
 
   malloc_fits : (args : List Operand) → Fits lim cursors (asks c s args Malloc)
   malloc_fits args = one_fits args _ (λ n. given_fits n.ty n.value _ mallocs_fits)
@@ -197,7 +215,7 @@ module _ (m : Module) (lim : Bounds) (cursors : List ℕ) (thread : ℕ) (s : Cu
       by_test : (t : Bool) → is_freeable lim address ≡ t
           → Fits lim cursors (if t then Wants s.place (requests.Free address) (λ z. on s)
           else traps s (kinds.BadFree address))
-      by_test true e = (free_row lim cursors address e, λ z. tt)
+      by_test true e = free_row lim cursors address e
       by_test false e = refl
 
       by_mark : (t : Bool)
@@ -232,7 +250,7 @@ module _ (m : Module) (lim : Bounds) (cursors : List ℕ) (thread : ℕ) (s : Cu
   creates_fits : (at attributes function argument : Operand) → Fits lim cursors (creates c s at function argument)
   creates_fits at attributes function argument =
       given_fits at.ty at.value _ (λ a. given_fits argument.ty argument.value _ (λ x.
-      given_by_fits (function_in c function.value) _ (λ f. located_fits Ptr a _ (λ access. (refl, λ answer. tt)))))
+      given_by_fits (function_in c function.value) _ (λ f. located_fits Ptr a _ (λ access there. refl))))
 
   -- the external can be called
   abbrev Served : External → Type 0
@@ -256,7 +274,7 @@ module _ (m : Module) (lim : Bounds) (cursors : List ℕ) (thread : ℕ) (s : Cu
   asks_fits args PrintI64 h = print_fits args
   asks_fits args PthreadCreate h = four_fits args _ creates_fits
   asks_fits args PthreadJoin h =
-      two_fits args _ (λ number value. given_fits number.ty number.value _ (λ n. (refl, λ answer. tt)))
+      two_fits args _ (λ number value. given_fits number.ty number.value _ (λ n. refl))
   asks_fits args DsNote h = absurd h
 
   calls_fits : (args : List Operand) (k : Callee) → CallsServed k → Fits lim cursors (calls c s args k)
@@ -307,19 +325,18 @@ module _ (m : Module) (lim : Bounds) (cursors : List ℕ) (thread : ℕ) (s : Cu
       given_fits I1 cond _ (λ n. given_fits ty a _ (λ x. given_fits ty b _ (λ y. tt)))
   act_fits good (Cast op from a to) = given_fits from a _ (λ x. tt)
   act_fits good (Alloca ty count) = alloca_fits ty count
-  act_fits good (Load ty at) = given_fits Ptr at _ (λ a. located_fits ty a _ (λ access. (refl, λ word. tt)))
+  act_fits good (Load ty at) = given_fits Ptr at _ (λ a. located_fits ty a _ (λ access there. refl))
   act_fits good (Store ty value at) =
-      given_fits ty value _ (λ v. given_fits Ptr at _ (λ a. located_fits ty a _ (λ access. (refl, λ z. tt))))
+      given_fits ty value _ (λ v. given_fits Ptr at _ (λ a. located_fits ty a _ (λ access there. refl)))
   act_fits good (Gep ty base indices) =
       given_fits Ptr base _ (λ a. given_by_fits (offset_by c s.frame.env ty indices) _ (λ bytes. tt))
   act_fits good (Call result callee args) = calls_fits args (callee_of m callee) (calls_served good callee)
   act_fits good (Phi ty arms) = tt
   act_fits good (Rmw op at ty value) =
-      given_fits Ptr at _ (λ a. given_fits ty value _ (λ v. located_fits ty a _ (λ access.
-      (refl, λ word. rmw_notes op ty at value _))))
+      given_fits Ptr at _ (λ a. given_fits ty value _ (λ v. located_fits ty a _ (λ access there. refl)))
   act_fits good (Cmpxchg at ty expected new) =
       given_fits Ptr at _ (λ a. given_fits ty expected _ (λ x. given_fits ty new _ (λ v.
-      located_fits ty a _ (λ access. (refl, λ word. tt)))))
+      located_fits ty a _ (λ access there. refl))))
   act_fits good (Extract ty of index) = given_by_fits (part_in s.frame.env of index) _ (λ x. tt)
   act_fits form Fence = tt
   act_fits good (Ret value) = ret_fits value

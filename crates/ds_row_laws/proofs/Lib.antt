@@ -1,3 +1,4 @@
 mod Lists
+mod Located
 mod Acts
 pub mod Rows

@@ -1,12 +1,13 @@
 -- The statement of the law.
-use Rattle.std.specs.Prelude.{false}
+use Rattle.std.specs.Prelude.{Bool}
 use Rattle.ds_ast.specs.declared.module.Module.{Module}
 use Rattle.ds_map.specs.Bounds.{Bounds}
 use Rattle.ds_shape.specs.Accepted.{Accepted}
 use Rattle.ds_plain.specs.Asking.{HasRows}
 use Rattle.ds_meaning.specs.Program.{program_of}
 
--- All that a thread of an accepted module asks, where no store is noted, has a row of the step table, whatever the
--- thread is told.
+-- All that a thread of an accepted module asks, whether its stores are noted or not, has a row of the step table,
+-- whatever the thread is told.
 abbrev pub AcceptedModulesAskRows : Type 0
-AcceptedModulesAskRows = (m : Module) (lim : Bounds) → Accepted m → HasRows lim (program_of false lim m)
+AcceptedModulesAskRows =
+    (noting : Bool) (m : Module) (lim : Bounds) → Accepted m → HasRows lim (program_of noting lim m)
