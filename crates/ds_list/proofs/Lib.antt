@@ -1,0 +1,3 @@
+pub mod Fails
+mod Owned
+mod Stood
