@@ -1,0 +1,3 @@
+mod Fails
+mod Sought
+mod Stood
