@@ -1,0 +1,15 @@
+pub mod Choices
+pub mod Places
+pub mod Links
+pub mod Quiet
+pub mod Words
+pub mod Others
+pub mod Makes
+pub mod Goes
+pub mod Stores
+pub mod Drawing
+pub mod Noted
+pub mod Lives
+pub mod Bounded
+pub mod First
+pub mod Runs
