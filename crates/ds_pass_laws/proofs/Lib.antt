@@ -5,3 +5,4 @@ mod Passed
 mod Stepped
 mod Quiet
 mod Composed
+mod Layouts

@@ -3,7 +3,7 @@
 //! There is no code in this crate. Each law is the contract of a function that only calls other laws.
 #![tactic(auto)]
 
-ghost use Rattle.ds_pass_laws.specs.Laws.{NotedModulesAgree, NotedCodeMeans};
+ghost use Rattle.ds_pass_laws.specs.Laws.{NotedModulesAgree, NotedCodeMeans, NotesKeepLayout};
 
 use ds_safe_laws::accepted_means;
 
@@ -20,3 +20,8 @@ pub fn noted_code_means()
 {
     accepted_means();
 }
+
+/// A module that has a layout has one with its notes.
+pub fn notes_keep_layout()
+    ensures { NotesKeepLayout }
+{}
