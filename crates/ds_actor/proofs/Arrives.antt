@@ -16,14 +16,16 @@ use Rattle.ds_plain.specs.declared.Change.TheVariants.{Put, Combine, Replace}
 use Rattle.ds_plain.specs.declared.Position.{Position}
 use Rattle.ds_plain.specs.declared.SpawnAt.TheVariants.{DrawThread}
 use Rattle.ds_plain.specs.declared.JoinAt.TheVariants.{LoadGiven}
-use Rattle.ds_plain.specs.declared.Position.TheVariants.{Start, Malloc, Free, Spawn, Join, DrawPrint, StoreEnded, Over}
-use Rattle.ds_plain.specs.declared.Position.TheVariants.{NoRow}
+use Rattle.ds_plain.specs.declared.Position.TheVariants.{Start, Malloc, Note, Free, Spawn, Join, DrawPrint}
+use Rattle.ds_plain.specs.declared.Position.TheVariants.{StoreEnded, Over, NoRow}
 use Rattle.ds_plain.specs.declared.Position.TheVariants as positions
 use Rattle.ds_plain.specs.Behaviour.{Asked, Asks, Silent, Behaviour, silent, told, behaviour, place_in_text}
 use Rattle.ds_plain.specs.Accessing.{changing_at}
 use Rattle.ds_plain.specs.declared.AllocAt.TheVariants as allocs
+use Rattle.ds_plain.specs.declared.NoteAt.TheVariants as noting
 use Rattle.ds_plain.specs.declared.FreeAt.TheVariants as freeing
 use Rattle.ds_plain.specs.Searching.{search_from}
+use Rattle.ds_plain.specs.Noting.{is_notable}
 use Rattle.ds_plain.specs.Freeing.{is_freeable}
 use Rattle.ds_plain.specs.Table.{looking_for, position_of, end_by}
 use Rattle.ds_plain.specs.Thread.{Thread, standing, going_on}
@@ -32,7 +34,8 @@ use Rattle.ds_code.specs.Machine.{Running, Machine}
 use Rattle.ds_code.specs.CodeMeaning.{step}
 use Rattle.ds_code.specs.CodeProgram.{behaves}
 use Rattle.ds_frame.specs.Steps.{answered_at}
-use Rattle.ds_frame.specs.Threads.{ThreadState, runs, Serves, Comes, Arrival, arrival, arrival_of, out_of_fuel, is_stop}
+use Rattle.ds_frame.specs.Threads.{ThreadState, runs, Serves, Comes, Arrival, arrival, arrival_of, out_of_fuel}
+use Rattle.ds_frame.specs.Threads.{is_stop}
 use Rattle.ds_actor.specs.Actors.{actor_with, stands_at, wanted_position, GoesOn, IsAt, IsSame}
 
 -- WHERE A THREAD STANDS
@@ -63,6 +66,7 @@ parts lim cursors rest units (Start at) = parts_by cursors rest units (Start at)
 parts lim cursors rest units (positions.Access at) =
     parts_by cursors rest units (positions.Access at) (nat_lt units lim.fuel)
 parts lim cursors rest units (Malloc at) = parts_by cursors rest units (Malloc at) (nat_lt units lim.fuel)
+parts lim cursors rest units (Note at) = parts_by cursors rest units (Note at) (nat_lt units lim.fuel)
 parts lim cursors rest units (Free at) = parts_by cursors rest units (Free at) (nat_lt units lim.fuel)
 parts lim cursors rest units (Spawn at) = parts_by cursors rest units (Spawn at) (nat_lt units lim.fuel)
 parts lim cursors rest units (Join at) = parts_by cursors rest units (Join at) (nat_lt units lim.fuel)
@@ -93,6 +97,12 @@ module _ (r : Running) (q : Machine) (place : Place) (rest : Behaviour) (lim : B
   taking (Some class) serves =
       goes_by (Malloc (allocs.LoadPage (search_from class (slice_index cursors class)))) (nat_lt units lim.fuel) serves
 
+  noting_by : (b : Bool) (loc value : ℕ) → Serves r q rest → place ≡ place_in_text (rest [])
+      → GoesOn r q place rest (stands_at lim units (if b then Note (noting.LoadPage loc value) else NoRow))
+  noting_by true loc value serves known =
+      goes_by (Note (noting.LoadPage loc value)) (nat_lt units lim.fuel) (serves, known)
+  noting_by false loc value serves known = goes_by NoRow (nat_lt units lim.fuel) tt
+
   freeing_by : (b : Bool) (address : ℕ) → Serves r q rest → place ≡ place_in_text (rest [])
       → GoesOn r q place rest (stands_at lim units (if b then Free (freeing.LoadPage address) else NoRow))
   freeing_by true address serves known =
@@ -119,7 +129,8 @@ module _ (r : Running) (q : Machine) (place : Place) (rest : Behaviour) (lim : B
       accessing (changing_at access (ReplaceWord access.loc expected new) (Replace expected new)) (serves refl)
   goes (requests.Malloc bytes) serves known = taking (class_of bytes) (serves refl)
   goes (requests.Free address) serves known = freeing_by (is_freeable lim address) address (serves refl) (known refl)
-  goes (requests.Note loc value) serves known = goes_by NoRow (nat_lt units lim.fuel) tt
+  goes (requests.Note loc value) serves known =
+      noting_by (is_notable lim loc value) loc value (serves refl) (known refl)
   goes (requests.Print value) serves known = goes_by (DrawPrint value) (nat_lt units lim.fuel) (serves refl)
   goes (requests.Spawn loc function arg) serves known =
       goes_by (Spawn (DrawThread loc function arg)) (nat_lt units lim.fuel) (serves refl)

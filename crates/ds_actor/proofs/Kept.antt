@@ -6,8 +6,8 @@ use Rattle.ds_alloc_laws.specs.Laws.{ClassesAreFew, MallocsBegin}
 use Rattle.ds_plain.specs.declared.Place.{Place}
 use Rattle.ds_plain.specs.declared.Stop.TheVariants.{Fuel}
 use Rattle.ds_plain.specs.declared.Position.{Position}
-use Rattle.ds_plain.specs.declared.Position.TheVariants.{Start, Access, Malloc, Free, Spawn, Join, DrawPrint, StoreEnded}
-use Rattle.ds_plain.specs.declared.Position.TheVariants.{Over, NoRow}
+use Rattle.ds_plain.specs.declared.Position.TheVariants.{Start, Access, Malloc, Note, Free, Spawn, Join}
+use Rattle.ds_plain.specs.declared.Position.TheVariants.{DrawPrint, StoreEnded, Over, NoRow}
 use Rattle.ds_plain.specs.Asking.{IsWithin, IsAskedWithin}
 use Rattle.ds_plain.specs.Reached.{AreCursors}
 use Rattle.ds_plain.specs.Behaviour.{Asked, Asks, Silent, Behaviour, silent, told}
@@ -33,6 +33,7 @@ module _ (lim : Bounds) where
   stands_within units (Start at) h = paying_within units (Start at) h
   stands_within units (Access at) h = paying_within units (Access at) h
   stands_within units (Malloc at) h = paying_within units (Malloc at) h
+  stands_within units (Note at) h = paying_within units (Note at) h
   stands_within units (Free at) h = paying_within units (Free at) h
   stands_within units (Spawn at) h = paying_within units (Spawn at) h
   stands_within units (Join at) h = paying_within units (Join at) h

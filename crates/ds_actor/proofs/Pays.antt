@@ -1,5 +1,6 @@
 -- A thread that stands at a step has fuel for it.
-use Rattle.std.proofs.Common.{◌≡◌, ℕ, ◌<◌, Bool, true, false, if◌then◌else◌, nat_lt, List, [], Option, Some, None, refl}
+use Rattle.std.proofs.Common.{◌≡◌, ℕ, ◌<◌, Bool, true, false, if◌then◌else◌, nat_lt, List, [], Option, Some, None}
+use Rattle.std.proofs.Common.{refl}
 use Rattle.std.proofs.Common.{ltb-true}
 use Rattle.ds_map.specs.Bounds.{Bounds}
 use Rattle.ds_map.specs.Blocks.{class_of}
@@ -8,11 +9,13 @@ use Rattle.ds_plain.specs.declared.Stop.TheVariants.{Idle, Running, Returned, Tr
 use Rattle.ds_plain.specs.declared.Request.{Request}
 use Rattle.ds_plain.specs.declared.Request.TheVariants as requests
 use Rattle.ds_plain.specs.declared.StartAt.TheVariants.{LoadStart}
+use Rattle.ds_plain.specs.declared.NoteAt.TheVariants as notes
 use Rattle.ds_plain.specs.declared.FreeAt.TheVariants as frees
 use Rattle.ds_plain.specs.declared.Position.{Position}
-use Rattle.ds_plain.specs.declared.Position.TheVariants.{Start, Access, Malloc, Free, Spawn, Join, DrawPrint, StoreEnded}
-use Rattle.ds_plain.specs.declared.Position.TheVariants.{Over, NoRow}
+use Rattle.ds_plain.specs.declared.Position.TheVariants.{Start, Access, Malloc, Note, Free, Spawn, Join}
+use Rattle.ds_plain.specs.declared.Position.TheVariants.{DrawPrint, StoreEnded, Over, NoRow}
 use Rattle.ds_plain.specs.Behaviour.{silent}
+use Rattle.ds_plain.specs.Noting.{is_notable}
 use Rattle.ds_plain.specs.Freeing.{is_freeable}
 use Rattle.ds_plain.specs.Table.{looking_for, position_of, end_by}
 use Rattle.ds_plain.specs.Thread.{Thread}
@@ -25,6 +28,7 @@ abbrev IsOn : Position → Type 0
 IsOn (Start at) = ⊥
 IsOn (Access at) = Unit {0}
 IsOn (Malloc at) = Unit {0}
+IsOn (Note at) = Unit {0}
 IsOn (Free at) = Unit {0}
 IsOn (Spawn at) = Unit {0}
 IsOn (Join at) = Unit {0}
@@ -48,6 +52,7 @@ module _ (lim : Bounds) (units : ℕ) (want : Want) where
   stands_pays (Start at) on = absurd on
   stands_pays (Access at) on = by_test (Access at) (nat_lt units lim.fuel) refl (λ lt. lt)
   stands_pays (Malloc at) on = by_test (Malloc at) (nat_lt units lim.fuel) refl (λ lt. lt)
+  stands_pays (Note at) on = by_test (Note at) (nat_lt units lim.fuel) refl (λ lt. lt)
   stands_pays (Free at) on = by_test (Free at) (nat_lt units lim.fuel) refl (λ lt. lt)
   stands_pays (Spawn at) on = by_test (Spawn at) (nat_lt units lim.fuel) refl (λ lt. lt)
   stands_pays (Join at) on = by_test (Join at) (nat_lt units lim.fuel) refl (λ lt. lt)
@@ -68,6 +73,10 @@ malloc_is_on : (cursors : List ℕ) (class : Option ℕ) → IsOn (looking_for c
 malloc_is_on cursors None = tt
 malloc_is_on cursors (Some class) = tt
 
+note_is_on : (b : Bool) (loc value : ℕ) → IsOn (if b then Note (notes.LoadPage loc value) else NoRow)
+note_is_on true loc value = tt
+note_is_on false loc value = tt
+
 free_is_on : (b : Bool) (address : ℕ) → IsOn (if b then Free (frees.LoadPage address) else NoRow)
 free_is_on true address = tt
 free_is_on false address = tt
@@ -79,7 +88,7 @@ request_is_on lim cursors (requests.Rmw access op value) = tt
 request_is_on lim cursors (requests.Cas access expected new) = tt
 request_is_on lim cursors (requests.Malloc bytes) = malloc_is_on cursors (class_of bytes)
 request_is_on lim cursors (requests.Free address) = free_is_on (is_freeable lim address) address
-request_is_on lim cursors (requests.Note loc value) = tt
+request_is_on lim cursors (requests.Note loc value) = note_is_on (is_notable lim loc value) loc value
 request_is_on lim cursors (requests.Print value) = tt
 request_is_on lim cursors (requests.Spawn loc function arg) = tt
 request_is_on lim cursors (requests.Join number) = tt

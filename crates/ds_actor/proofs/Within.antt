@@ -1,6 +1,7 @@
 -- Whatever the code, a thread asks only for words that are there.
 use Rattle.std.proofs.Common.{◌≡◌, ℕ, zero, suc, ◌+◌, ◌*◌, ◌/◌, ◌%◌, ◌<◌, ◌≤◌, Bool, true, false, not}
-use Rattle.std.proofs.Common.{◌&&◌, ◌||◌, ◌==◌, if◌then◌else◌, nat_lt, nat_le, List, [], ◌∷◌, length, Option, Some, None}
+use Rattle.std.proofs.Common.{◌&&◌, ◌||◌, ◌==◌, if◌then◌else◌, nat_lt, nat_le, List, [], ◌∷◌, length, Option, Some}
+use Rattle.std.proofs.Common.{None}
 use Rattle.std.proofs.Common.{Result, Ok, Err, refl, arith, option_map, slice_get, slice_index}
 use Rattle.std.proofs.lemmas.Bool.{and_parts, eqb-true}
 use Rattle.std.proofs.lemmas.Bool.Decides.{nat_tests}
@@ -9,7 +10,8 @@ use Rattle.ds_ast.specs.declared.ty.Scalar.TheVariants.{I1, I8, I16, I32, I64, P
 use Rattle.ds_arith.specs.declared.fault.ArithFault.{ArithFault}
 use Rattle.ds_map.specs.Bounds.{Bounds, IsInRange}
 use Rattle.ds_map.specs.Blocks.{class_of, is_marked}
-use Rattle.ds_map.specs.Regions.{Region, globals, stacks, stack, heap, lies_in, location_in, location_of, program_words}
+use Rattle.ds_map.specs.Regions.{Region, globals, stacks, stack, heap, lies_in, location_in, location_of}
+use Rattle.ds_map.specs.Regions.{program_words}
 use Rattle.ds_shape.specs.Sizes.{scalar_size, rounded}
 use Rattle.ds_plain.specs.declared.Access.{Access}
 use Rattle.ds_plain.specs.declared.Place.{Place}
@@ -31,7 +33,9 @@ use Rattle.ds_plain.specs.Behaviour.{Outcome, Goes, Wants, Stops, Stuck, Asked, 
 use Rattle.ds_plain.specs.Behaviour.{behaviour}
 use Rattle.ds_plain.specs.Parts.{is_whole}
 use Rattle.ds_plain.specs.Accessing.{changing_at, IsAccessAt}
+use Rattle.ds_plain.specs.declared.NoteAt.TheVariants as noting
 use Rattle.ds_plain.specs.declared.FreeAt.TheVariants as freeing
+use Rattle.ds_plain.specs.Noting.{is_notable}
 use Rattle.ds_plain.specs.Freeing.{is_freeable}
 use Rattle.ds_plain.specs.Reached.{AreCursors}
 use Rattle.ds_plain.specs.Table.{looking_for, position_of, end_by}
@@ -201,6 +205,11 @@ module _ (few : ClassesAreFew) (begins : MallocsBegin) (r : Running) (range : Is
   looking_within cursors (Some class) looks below =
       (begins r.lim class (slice_index cursors class) range (looks.each class (below class refl))).0
 
+  noting_within : (b : Bool) (loc v : ℕ) → is_notable r.lim loc v ≡ b
+      → IsWithin r.lim (if b then positions.Note (noting.LoadPage loc v) else NoRow)
+  noting_within true loc v e = e
+  noting_within false loc v e = tt
+
   freeing_within : (b : Bool) (address : ℕ) → is_freeable r.lim address ≡ b
       → IsWithin r.lim (if b then positions.Free (freeing.LoadPage address) else NoRow)
   freeing_within true address e = e
@@ -228,7 +237,7 @@ module _ (few : ClassesAreFew) (begins : MallocsBegin) (r : Running) (range : Is
   noted_fits : (loc v : ℕ) → Fits r.lim (noted r q i loc v)
   noted_fits loc v =
       moves_or_asks (is_marked v || not (lies_in (heap r.lim) v)) (on q) (place_of q i) (requests.Note loc v)
-      (λ z. on q) (λ cursors looks. tt)
+      (λ z. on q) (λ cursors looks. noting_within (is_notable r.lim loc v) loc v refl)
 
   abbrev frees_whole : ℕ → Outcome Machine
   frees_whole address =

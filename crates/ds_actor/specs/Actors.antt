@@ -6,8 +6,8 @@ use Rattle.ds_plain.specs.declared.Place.{Place}
 use Rattle.ds_plain.specs.declared.Stop.{Stop}
 use Rattle.ds_plain.specs.declared.StartAt.TheVariants.{LoadStart}
 use Rattle.ds_plain.specs.declared.Position.{Position}
-use Rattle.ds_plain.specs.declared.Position.TheVariants.{Start, Access, Malloc, Free, Spawn, Join, DrawPrint, StoreEnded}
-use Rattle.ds_plain.specs.declared.Position.TheVariants.{Over, NoRow}
+use Rattle.ds_plain.specs.declared.Position.TheVariants.{Start, Access, Malloc, Note, Free, Spawn, Join}
+use Rattle.ds_plain.specs.declared.Position.TheVariants.{DrawPrint, StoreEnded, Over, NoRow}
 use Rattle.ds_plain.specs.Asking.{IsWithin}
 use Rattle.ds_plain.specs.Behaviour.{Behaviour, silent, place_in_text}
 use Rattle.ds_plain.specs.Reached.{AreCursors}
@@ -57,11 +57,12 @@ has_begun wants.Begin = false
 has_begun (wants.Asks request) = true
 
 -- a thread that stands at a step for its request goes on as the behaviour says, once it is answered; where the request
--- may trap, it knows its place
+-- may trap or find a table full, it knows its place
 abbrev pub GoesOn : Running → Machine → Place → Behaviour → Position → Type 0
 GoesOn r q place rest (Start at) = Unit {0}
 GoesOn r q place rest (Access at) = Serves r q rest
 GoesOn r q place rest (Malloc at) = Serves r q rest
+GoesOn r q place rest (Note at) = Serves r q rest × (place ≡ place_in_text (rest []))
 GoesOn r q place rest (Free at) = Serves r q rest × (place ≡ place_in_text (rest []))
 GoesOn r q place rest (Spawn at) = Serves r q rest
 GoesOn r q place rest (Join at) = Serves r q rest × (place ≡ place_in_text (rest []))
@@ -89,6 +90,7 @@ abbrev pub ended_with : Position → Option Stop
 ended_with (Start at) = None
 ended_with (Access at) = None
 ended_with (Malloc at) = None
+ended_with (Note at) = None
 ended_with (Free at) = None
 ended_with (Spawn at) = None
 ended_with (Join at) = None
@@ -107,6 +109,7 @@ abbrev pub turn_by : Position → Step → Turn
 turn_by (Start at) step = waiting step
 turn_by (Access at) step = waiting step
 turn_by (Malloc at) step = waiting step
+turn_by (Note at) step = waiting step
 turn_by (Free at) step = waiting step
 turn_by (Spawn at) step = waiting step
 turn_by (Join at) step = waiting step
@@ -137,6 +140,7 @@ abbrev pub Pays : (fuel units : ℕ) → Want → Position → Type 0
 Pays fuel units want (Start at) = (units < fuel) × (want ≡ wants.Begin)
 Pays fuel units want (Access at) = units < fuel
 Pays fuel units want (Malloc at) = units < fuel
+Pays fuel units want (Note at) = units < fuel
 Pays fuel units want (Free at) = units < fuel
 Pays fuel units want (Spawn at) = units < fuel
 Pays fuel units want (Join at) = units < fuel

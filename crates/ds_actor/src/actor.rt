@@ -3,11 +3,12 @@
 ghost use Rattle.std.specs.Prelude.{◌≡◌, ◌+◌, ◌<◌, ◌≤◌, suc, false, slice_set, IfOk};
 ghost use Rattle.ds_map.specs.Words.{words};
 ghost use Rattle.ds_map.specs.Blocks.{block_start};
-ghost use Rattle.ds_plain.specs.declared.Position.TheVariants.{Start, Access, Malloc, Free, Spawn, Join};
+ghost use Rattle.ds_plain.specs.declared.Position.TheVariants.{Start, Access, Malloc, Note, Free, Spawn, Join};
 ghost use Rattle.ds_plain.specs.Behaviour.{Behaviour, told};
 ghost use Rattle.ds_plain.specs.Asking.{IsWithin};
 ghost use Rattle.ds_plain.specs.Accessing.{access_next, IsAccessAt};
 ghost use Rattle.ds_plain.specs.Searching.{alloc_next, place_behind};
+ghost use Rattle.ds_plain.specs.Noting.{note_next, IsNoteAt};
 ghost use Rattle.ds_plain.specs.Freeing.{free_next};
 ghost use Rattle.ds_plain.specs.Reached.{AreCursors, IsPlace, IsAllocAt, IsFreeAt};
 ghost use Rattle.ds_plain.specs.Table.{op_at, is_over};
@@ -16,7 +17,7 @@ ghost use Rattle.ds_plain.specs.Spawning.{spawn_next, IsSpawnAt};
 ghost use Rattle.ds_plain.specs.Joining.{join_next, IsJoinAt};
 ghost use Rattle.ds_plain.specs.Thread.{first_thread, going_on, moved, moved_from_access, moved_from_malloc};
 ghost use Rattle.ds_plain.specs.Thread.{moved_from_start, moved_from_spawn, moved_from_join};
-ghost use Rattle.ds_plain.specs.Thread.{moved_from_free, freed_address, trap_kind, stop_at};
+ghost use Rattle.ds_plain.specs.Thread.{moved_from_note, moved_from_free, freed_address, trap_kind, stop_at};
 ghost use Rattle.ds_plain.specs.Thread as threads;
 ghost use Rattle.ds_alloc_laws.specs.Laws.{class_at};
 ghost use Rattle.ds_code.specs.CodeProgram.{program_of, behaves};
@@ -37,11 +38,12 @@ use ds_alloc::{AllocOutcome, AllocWalk, place_behind};
 use ds_alloc_laws::{classes_are_few, cursors_begin, cursors_move, mallocs_begin, mallocs_look_on};
 use ds_code::Code;
 use ds_frame::{Thread, Want};
+use ds_log::{NoteOutcome, NoteWalk};
 use ds_map::Limits;
 use ds_mark::{FreeOutcome, FreeWalk};
 use ds_pages::start_of;
 use ds_plain::{
-    AccessAt, AllocAt, FreeAt, JoinAt, Position, SpawnAt, StartAt, Stop, Trap, TrapKind,
+    AccessAt, AllocAt, FreeAt, JoinAt, NoteAt, Position, SpawnAt, StartAt, Stop, Trap, TrapKind,
 };
 use ds_step::{FreeTrap, WordOp};
 use std::alloc::{AllocError, Global};
@@ -172,6 +174,20 @@ fn look_on(limits: &Limits, thread: &mut Thread, at: AllocAt) -> Position
     stands_at(limits, thread.units(), Position::Malloc(at))
 }
 
+/// Makes a thread go on with its note, and answers where it then stands.
+fn note_on(limits: &Limits, thread: &mut Thread, at: NoteAt) -> Position
+    requires lim { thread.old.lim ≡ limits.now }
+    requires reached { IsNoteAt limits.now at }
+    requires pays { thread.old.units < limits.now.fuel }
+    ensures thread { thread.new ≡ record thread.old { units = thread.old.units + 1 } }
+    ensures position { result ≡ stands_at limits.now (thread.old.units + 1) (Note at) }
+    ensures within { IsWithin limits.now result }
+    ensures pays { Pays limits.now.fuel thread.new.units thread.new.want result }
+{
+    thread.spend();
+    stands_at(limits, thread.units(), Position::Note(at))
+}
+
 /// Makes a thread go on with its free, and answers where it then stands.
 fn free_on(limits: &Limits, thread: &mut Thread, at: FreeAt) -> Position
     requires lim { thread.old.lim ≡ limits.now }
@@ -287,6 +303,7 @@ impl Actor {
             Position::Start(_) => Stop::Idle,
             Position::Access(_) => Stop::Running,
             Position::Malloc(_) => Stop::Running,
+            Position::Note(_) => Stop::Running,
             Position::Free(_) => Stop::Running,
             Position::Spawn(_) => Stop::Running,
             Position::Join(_) => Stop::Running,
@@ -412,6 +429,32 @@ impl Actor {
         }
     }
 
+    /// Goes on with its note, by the answer to its step.
+    fn noted_on(&mut self, code: &Code, at: NoteAt, old: u64)
+        requires at { self.old.position ≡ Note at }
+        requires row { code.now.row ≤ self.old.thread.row }
+        ensures stands { (a : threads.Thread) → IsAt code.now self.old a → IsAt code.now self.new
+            (moved_from_note self.old.thread.lim a (note_next self.old.thread.lim at old)) }
+        ensures same { IsSame self.old.thread self.new.thread }
+    {
+        let mut walk = NoteWalk::at(self.number, at, &self.limits);
+        walk.answer(old);
+        if let Some(next) = walk.position() {
+            self.position = note_on(&self.limits, &mut self.thread, next);
+            return;
+        }
+        match walk.outcome() {
+            Some(NoteOutcome::Full(what)) => {
+                let place = self.thread.place();
+                self.thread.spend();
+                self.position = Position::StoreEnded {
+                    stop: Stop::Full(place, what),
+                };
+            }
+            _ => self.resumed(code, 0),
+        }
+    }
+
     /// Goes on with its free, by the answer to its step.
     fn freed_on(&mut self, code: &Code, at: FreeAt, old: u64)
         requires at { self.old.position ≡ Free at }
@@ -491,6 +534,7 @@ impl Actor {
             Position::Start(at) => self.start(code, at, old),
             Position::Access(at) => self.access_on(code, at, old),
             Position::Malloc(at) => self.malloc_on(code, at, old),
+            Position::Note(at) => self.noted_on(code, at, old),
             Position::Free(at) => self.freed_on(code, at, old),
             Position::Spawn(at) => self.spawn(code, at, old),
             Position::Join(at) => self.join(code, at, old),

@@ -58,6 +58,7 @@ pub(crate) fn turn_by(position: Position, step: Step) -> Turn
         Position::Start(_) => waiting(step),
         Position::Access(_) => waiting(step),
         Position::Malloc(_) => waiting(step),
+        Position::Note(_) => waiting(step),
         Position::Free(_) => waiting(step),
         Position::Spawn(_) => waiting(step),
         Position::Join(_) => waiting(step),

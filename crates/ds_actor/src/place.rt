@@ -1,13 +1,15 @@
 //! The position of a thread by what it wants.
 
 ghost use Rattle.std.specs.Prelude.{◌≡◌, ◌<◌, nat_lt, if◌then◌else◌, IfSome};
+ghost use Rattle.ds_map.specs.Regions.{heap, lies_in};
 ghost use Rattle.ds_plain.specs.declared.Stop.TheVariants.{Fuel};
 ghost use Rattle.ds_plain.specs.declared.Position.TheVariants.{StoreEnded};
 ghost use Rattle.ds_plain.specs.Parts.{is_whole};
 ghost use Rattle.ds_plain.specs.Accessing.{changing_at};
+ghost use Rattle.ds_plain.specs.Noting.{is_notable};
 ghost use Rattle.ds_plain.specs.Freeing.{is_freeable};
 ghost use Rattle.ds_plain.specs.Searching.{search_from};
-ghost use Rattle.ds_plain.specs.Table.{position_of, looking_for, freeing_at, end_by};
+ghost use Rattle.ds_plain.specs.Table.{position_of, looking_for, noting_at, freeing_at, end_by};
 ghost use Rattle.ds_actor.specs.Actors.{stands_at, wanted_position};
 
 use crate::cursors::Cursors;
@@ -15,8 +17,8 @@ use ds_class::class_of;
 use ds_frame::{Thread, Want};
 use ds_map::Limits;
 use ds_plain::{
-    Access, AccessAt, AllocAt, Change, FreeAt, JoinAt, Position, Request, Search, SpawnAt, StartAt,
-    Stop,
+    Access, AccessAt, AllocAt, Change, FreeAt, JoinAt, NoteAt, Position, Request, Search, SpawnAt,
+    StartAt, Stop,
 };
 
 /// The address of the heap's first byte.
@@ -24,6 +26,12 @@ const HEAP_START: u64 = 0x100_0000;
 
 /// The number of bytes of a page.
 const PAGE_BYTES: u64 = 4096;
+
+/// The location of the heap's first word.
+const HEAP_LOCATION: u32 = 69_632;
+
+/// The number of words of a page.
+const PAGE_WORDS: u32 = 512;
 
 /// The number of places of a page.
 const PAGE_PLACES: u32 = 256;
@@ -71,13 +79,37 @@ fn looking_for(cursors: &Cursors, class: Option<u8>) -> Position
     }
 }
 
+/// Whether an address lies in the heap.
+fn lies_in_heap(limits: &Limits, address: u64) -> bool
+    ensures { result ≡ lies_in (heap limits.now) address }
+{
+    address >= HEAP_START && address < HEAP_START + PAGE_BYTES * u64::from(limits.pages())
+}
+
+/// Whether a note can be asked for a value at a location: the location is one of program memory, and the value lies in
+/// the heap.
+fn is_notable(limits: &Limits, loc: u32, value: u64) -> bool
+    ensures { result ≡ is_notable limits.now loc value }
+{
+    loc < HEAP_LOCATION + PAGE_WORDS * limits.pages() && lies_in_heap(limits, value)
+}
+
+/// The position of a thread that asks to note a value at a location.
+fn noting_at(limits: &Limits, loc: u32, value: u64) -> Position
+    ensures { result ≡ noting_at limits.now loc value }
+{
+    if is_notable(limits, loc, value) {
+        Position::Note(NoteAt::LoadPage { loc, value })
+    } else {
+        Position::NoRow
+    }
+}
+
 /// Whether a free can be asked for an address: it lies in the heap and is a multiple of 8.
 fn is_freeable(limits: &Limits, address: u64) -> bool
     ensures { result ≡ is_freeable limits.now address }
 {
-    address >= HEAP_START
-        && address < HEAP_START + PAGE_BYTES * u64::from(limits.pages())
-        && address % 8 == 0
+    lies_in_heap(limits, address) && address % 8 == 0
 }
 
 /// The position of a thread that asks to free an address.
@@ -132,7 +164,7 @@ fn position_of(limits: &Limits, cursors: &Cursors, request: Request) -> Position
         }
         Request::Malloc(bytes) => looking_for(cursors, class_of(bytes)),
         Request::Free(address) => freeing_at(limits, address),
-        Request::Note { loc: _, value: _ } => Position::NoRow,
+        Request::Note { loc, value } => noting_at(limits, loc, value),
         Request::Print(value) => Position::DrawPrint { value },
         Request::Spawn { loc, function, arg } => {
             Position::Spawn(SpawnAt::DrawThread { loc, function, arg })
@@ -171,6 +203,7 @@ pub(crate) fn stands_at(limits: &Limits, units: u32, position: Position) -> Posi
         Position::Start(_) => paid(limits, units, position),
         Position::Access(_) => paid(limits, units, position),
         Position::Malloc(_) => paid(limits, units, position),
+        Position::Note(_) => paid(limits, units, position),
         Position::Free(_) => paid(limits, units, position),
         Position::Spawn(_) => paid(limits, units, position),
         Position::Join(_) => paid(limits, units, position),

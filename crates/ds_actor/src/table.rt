@@ -9,6 +9,7 @@ ghost use Rattle.ds_plain.specs.Spawning.{spawn_op, IsSpawnAt};
 ghost use Rattle.ds_plain.specs.Joining.{join_op, IsJoinAt};
 ghost use Rattle.ds_plain.specs.Accessing.{access_row, access_event, IsAccessAt};
 ghost use Rattle.ds_plain.specs.Asking.{IsWithin};
+ghost use Rattle.ds_plain.specs.Noting.{note_row, note_event, IsNoteAt};
 ghost use Rattle.ds_plain.specs.Freeing.{free_row, free_event};
 ghost use Rattle.ds_plain.specs.Reached.{IsAllocAt, IsFreeAt};
 ghost use Rattle.ds_plain.specs.Searching.{alloc_row, alloc_event};
@@ -17,9 +18,10 @@ use crate::join::join_meaning_of;
 use crate::spawn::spawn_meaning_of;
 use ds_access::AccessWalk;
 use ds_alloc::AllocWalk;
+use ds_log::NoteWalk;
 use ds_map::{Limits, word_of};
 use ds_mark::FreeWalk;
-use ds_plain::{AccessAt, AllocAt, FreeAt, JoinAt, Position, SpawnAt, StartAt};
+use ds_plain::{AccessAt, AllocAt, FreeAt, JoinAt, NoteAt, Position, SpawnAt, StartAt};
 use ds_step::{Event, OpKind, Step, WordOp};
 
 /// The word that counts the prints.
@@ -163,6 +165,7 @@ pub fn op_of(limits: &Limits, thread: u8, position: Position) -> WordOp
         Position::Start(at) => start_op_of(thread, at),
         Position::Access(at) => AccessWalk::at(at, limits).op(),
         Position::Malloc(at) => AllocWalk::at(at, limits).op(),
+        Position::Note(at) => NoteWalk::at(thread, at, limits).op(),
         Position::Free(at) => FreeWalk::at(at, limits).op(),
         Position::Spawn(at) => spawn_op_of(limits, at),
         Position::Join(at) => join_op_of(at),
@@ -215,6 +218,18 @@ fn alloc_meaning_of(limits: &Limits, at: AllocAt, old: u64) -> (u8, Event)
     (row, walk.answer(old))
 }
 
+/// The number of a row of a note, and what the answer means there.
+fn note_meaning_of(limits: &Limits, thread: u8, at: NoteAt, old: u64) -> (u8, Event)
+    requires thread { thread < 16 }
+    requires at { IsNoteAt limits.now at }
+    ensures row { result.0 ≡ note_row at }
+    ensures event { result.1 ≡ note_event limits.now at old }
+{
+    let mut walk = NoteWalk::at(thread, at, limits);
+    let row = walk.row();
+    (row, walk.answer(old))
+}
+
 /// The number of a row of a free, and what the answer means there.
 fn free_meaning_of(limits: &Limits, at: FreeAt, old: u64) -> (u8, Event)
     requires { IsFreeAt limits.now at }
@@ -228,7 +243,8 @@ fn free_meaning_of(limits: &Limits, at: FreeAt, old: u64) -> (u8, Event)
 
 /// The number of a position's row, and what the answer means there.
 fn meaning_of(limits: &Limits, thread: u8, position: Position, old: u64) -> (u8, Event)
-    requires { IsWithin limits.now position }
+    requires thread { thread < 16 }
+    requires location { IsWithin limits.now position }
     ensures row { result.0 ≡ row_at position }
     ensures event { result.1 ≡ event_at limits.now thread position old }
 {
@@ -236,6 +252,7 @@ fn meaning_of(limits: &Limits, thread: u8, position: Position, old: u64) -> (u8,
         Position::Start(at) => start_meaning_of(thread, at, old),
         Position::Access(at) => access_meaning_of(limits, at, old),
         Position::Malloc(at) => alloc_meaning_of(limits, at, old),
+        Position::Note(at) => note_meaning_of(limits, thread, at, old),
         Position::Free(at) => free_meaning_of(limits, at, old),
         Position::Spawn(at) => spawn_meaning_of(at, old),
         Position::Join(at) => join_meaning_of(thread, at, old),

@@ -11,9 +11,10 @@ use Rattle.ds_plain.specs.declared.Request.{Request}
 use Rattle.ds_plain.specs.declared.Request.TheVariants as requests
 use Rattle.ds_plain.specs.declared.StartAt.TheVariants.{LoadStart}
 use Rattle.ds_plain.specs.declared.Position.{Position}
-use Rattle.ds_plain.specs.declared.Position.TheVariants.{Start, Access, Malloc, Free, Spawn, Join, DrawPrint, StoreEnded}
-use Rattle.ds_plain.specs.declared.Position.TheVariants.{Over, NoRow}
+use Rattle.ds_plain.specs.declared.Position.TheVariants.{Start, Access, Malloc, Note, Free, Spawn, Join}
+use Rattle.ds_plain.specs.declared.Position.TheVariants.{DrawPrint, StoreEnded, Over, NoRow}
 use Rattle.ds_plain.specs.Behaviour.{Asked, Asks, Silent, Behaviour, place_in_text, told, Program}
+use Rattle.ds_plain.specs.declared.NoteAt.TheVariants as notes
 use Rattle.ds_plain.specs.declared.FreeAt.TheVariants as frees
 use Rattle.ds_plain.specs.Plain.{trap_stop}
 use Rattle.ds_plain.specs.declared.TrapKind.TheVariants.{BadJoin}
@@ -22,16 +23,18 @@ use Rattle.ds_plain.specs.Spawning.{SpawnNext, SpawnsOn, SpawnTells, spawn_next}
 use Rattle.ds_plain.specs.Joining.{JoinNext, JoinsOn, Joined, FailsJoin, join_next}
 use Rattle.ds_plain.specs.Accessing.{AccessNext, AccessesOn, Tells, access_next}
 use Rattle.ds_plain.specs.Searching.{AllocNext, Looks, Takes, TakesNone, place_behind, alloc_next}
+use Rattle.ds_plain.specs.Noting.{NoteNext, NotesOn, HasNoted, HasSkipped, FailsNote, note_next, is_notable}
 use Rattle.ds_plain.specs.Freeing.{FreeNext, FreesOn, Freed, FailsFree, free_next, is_freeable}
 use Rattle.ds_plain.specs.Table.{looking_for, position_of, is_over, step_at, end_by}
 use Rattle.ds_plain.specs.Thread.{Thread, paying, standing, arriving, going_on, moved_from_access, moved_from_malloc}
-use Rattle.ds_plain.specs.Thread.{moved_from_start, moved_from_spawn, moved_from_join, moved_from_free}
-use Rattle.ds_plain.specs.Thread.{freed_address, trap_kind, moved, first_cursors, first_thread}
+use Rattle.ds_plain.specs.Thread.{moved_from_start, moved_from_spawn, moved_from_join, moved_from_note}
+use Rattle.ds_plain.specs.Thread.{moved_from_free, freed_address, trap_kind, moved, first_cursors, first_thread}
 use Rattle.ds_plain.specs.Turns.{is_end}
 use Rattle.ds_plain.specs.Asking.{has_row, AsksRows, HasRows}
 use Rattle.ds_plain.specs.Explained.{HasEnded}
 use Rattle.ds_core.specs.Fits.{FitsAt, Fits, steps_left}
-use Rattle.ds_core.proofs.Passing.{start_goes_on, spawn_goes_on, join_goes_on, access_goes_on, malloc_goes_on, free_goes_on}
+use Rattle.ds_core.proofs.Passing.{start_goes_on, spawn_goes_on, join_goes_on, access_goes_on, malloc_goes_on}
+use Rattle.ds_core.proofs.Passing.{note_goes_on, free_goes_on}
 
 -- a thread has come so far, with at least these units spent
 record Comes (lim : Bounds) (units : ℕ) (behaves : Behaviour) (a : Thread) : Type 0 where
@@ -65,6 +68,7 @@ abbrev EndsWell : Position → Type 0
 EndsWell (Start at) = Unit {0}
 EndsWell (Access at) = Unit {0}
 EndsWell (Malloc at) = Unit {0}
+EndsWell (Note at) = Unit {0}
 EndsWell (Free at) = Unit {0}
 EndsWell (Spawn at) = Unit {0}
 EndsWell (Join at) = Unit {0}
@@ -81,6 +85,8 @@ standing_comes lim cursors behaves units began (Access at) inside well =
     paying_comes lim cursors behaves units began (Access at) inside (λ lt. (refl, lt)) (omega arith)
 standing_comes lim cursors behaves units began (Malloc at) inside well =
     paying_comes lim cursors behaves units began (Malloc at) inside (λ lt. (refl, lt)) (omega arith)
+standing_comes lim cursors behaves units began (Note at) inside well =
+    paying_comes lim cursors behaves units began (Note at) inside (λ lt. (refl, lt)) (omega arith)
 standing_comes lim cursors behaves units began (Free at) inside well =
     paying_comes lim cursors behaves units began (Free at) inside (λ lt. (refl, lt)) (omega arith)
 standing_comes lim cursors behaves units began (Spawn at) inside well =
@@ -107,6 +113,11 @@ malloc_ends : (cursors : List ℕ) (class : Option ℕ) → not (is_over (lookin
 malloc_ends cursors None row = cc
 malloc_ends cursors (Some class) row = tt
 
+note_ends : (b : Bool) (loc value : ℕ) → not (is_over (if b then Note (notes.LoadPage loc value) else NoRow)) ≡ true
+    → EndsWell (if b then Note (notes.LoadPage loc value) else NoRow)
+note_ends true loc value row = tt
+note_ends false loc value row = cc
+
 free_ends : (b : Bool) (address : ℕ) → not (is_over (if b then Free (frees.LoadPage address) else NoRow)) ≡ true
     → EndsWell (if b then Free (frees.LoadPage address) else NoRow)
 free_ends true address row = tt
@@ -120,7 +131,7 @@ request_ends lim cursors (requests.Rmw access op value) row = tt
 request_ends lim cursors (requests.Cas access expected new) row = tt
 request_ends lim cursors (requests.Malloc bytes) row = malloc_ends cursors (class_of bytes) row
 request_ends lim cursors (requests.Free address) row = free_ends (is_freeable lim address) address row
-request_ends lim cursors (requests.Note loc value) row = cc
+request_ends lim cursors (requests.Note loc value) row = note_ends (is_notable lim loc value) loc value row
 request_ends lim cursors (requests.Print value) row = tt
 request_ends lim cursors (requests.Spawn loc function arg) row = tt
 request_ends lim cursors (requests.Join number) row = tt
@@ -213,6 +224,19 @@ malloc_moves lim a (Takes class place life) paid asks =
     paid asks
 malloc_moves lim a TakesNone paid asks = told_nearer lim a.cursors a.units 0 a.rest paid asks
 
+-- a note goes on, is told an answer, or stops its thread; no event of it is an end
+note_moves : (lim : Bounds) (a : Thread) (next : NoteNext) → a.units < lim.fuel → AsksRows lim a.rest
+    → Moves lim false (suc (lim.fuel - a.units)) (moved_from_note lim a next)
+note_moves lim a (NotesOn at) paid asks =
+    comes_nearer lim a.units a.rest _ paid asks
+    (standing_comes lim a.cursors a.rest (a.units + 1) a.began (Note at) (omega (arith, paid)) tt)
+note_moves lim a HasNoted paid asks = told_nearer lim a.cursors a.units 0 a.rest paid asks
+note_moves lim a HasSkipped paid asks = told_nearer lim a.cursors a.units 0 a.rest paid asks
+note_moves lim a (FailsNote what) paid asks =
+    comes_nearer lim a.units a.rest _ paid asks
+    (standing_comes lim a.cursors a.rest (a.units + 1) a.began
+    (StoreEnded (Full (place_in_text (a.rest [])) what)) (omega (arith, paid)) tt)
+
 free_moves : (lim : Bounds) (a : Thread) (address : ℕ) (next : FreeNext) → a.units < lim.fuel → AsksRows lim a.rest
     → Moves lim false (suc (lim.fuel - a.units)) (moved_from_free lim a address next)
 free_moves lim a address (FreesOn at) paid asks =
@@ -243,6 +267,11 @@ moves_from program lim t behaves (Malloc at) units began cursors old rows fits a
     record { rest = behaves; position = Malloc at; units = units; began = began; cursors = cursors } in
     subst (λ b. Moves lim b (suc (lim.fuel - units)) (moved_from_malloc lim a (alloc_next lim at old)))
     (sym (malloc_goes_on lim at old)) (malloc_moves lim a (alloc_next lim at old) fits.1 asks)
+moves_from program lim t behaves (Note at) units began cursors old rows fits asks =
+    let a : Thread =
+    record { rest = behaves; position = Note at; units = units; began = began; cursors = cursors } in
+    subst (λ b. Moves lim b (suc (lim.fuel - units)) (moved_from_note lim a (note_next lim at old)))
+    (sym (note_goes_on lim at old)) (note_moves lim a (note_next lim at old) fits.1 asks)
 moves_from program lim t behaves (Free at) units began cursors old rows fits asks =
     let a : Thread =
     record { rest = behaves; position = Free at; units = units; began = began; cursors = cursors } in
@@ -277,6 +306,7 @@ pub goes : (lim : Bounds) (p : Position) (units : ℕ) → FitsAt lim false p un
 goes lim (Start at) units fits = refl
 goes lim (Access at) units fits = refl
 goes lim (Malloc at) units fits = refl
+goes lim (Note at) units fits = refl
 goes lim (Free at) units fits = refl
 goes lim (Spawn at) units fits = refl
 goes lim (Join at) units fits = refl

@@ -1,9 +1,10 @@
--- The events of a start, a spawn, a join, an access, a malloc and a free end no thread.
+-- The events of a start, a spawn, a join, an access, a malloc, a note and a free end no thread.
 use Rattle.std.proofs.Common.{◌≡◌, ℕ, ◌==◌, Bool, true, false, if◌then◌else◌, nat_lt, refl, ap}
 use Rattle.std.proofs.lemmas.Bool.{cond_both}
 use Rattle.ds_map.specs.Bounds.{Bounds}
 use Rattle.ds_step.specs.declared.Event.{Event}
 use Rattle.ds_step.specs.declared.Event.TheVariants as events
+use Rattle.ds_step.specs.declared.FullWhat.TheVariants as tables
 use Rattle.ds_plain.specs.declared.StartAt.{StartAt}
 use Rattle.ds_plain.specs.declared.StartAt.TheVariants as starts
 use Rattle.ds_plain.specs.declared.SpawnAt.{SpawnAt}
@@ -17,18 +18,27 @@ use Rattle.ds_plain.specs.declared.AccessAt.TheVariants as accesses
 use Rattle.ds_plain.specs.declared.Search.{Search}
 use Rattle.ds_plain.specs.declared.AllocAt.{AllocAt}
 use Rattle.ds_plain.specs.declared.AllocAt.TheVariants as allocs
+use Rattle.ds_plain.specs.declared.ListAt.{ListAt}
+use Rattle.ds_plain.specs.declared.ListAt.TheVariants as lists
+use Rattle.ds_plain.specs.declared.NoteAt.{NoteAt}
+use Rattle.ds_plain.specs.declared.NoteAt.TheVariants as notes
 use Rattle.ds_plain.specs.declared.FreeAt.{FreeAt}
 use Rattle.ds_plain.specs.declared.FreeAt.TheVariants as frees
 use Rattle.ds_plain.specs.Starting.{begins, start_event}
 use Rattle.ds_plain.specs.Spawning.{spawn_event}
 use Rattle.ds_plain.specs.Joining.{is_bad_join, join_event}
 use Rattle.ds_plain.specs.Accessing.{is_refused, part_seen, access_event}
-use Rattle.ds_plain.specs.Searching.{PageSeen, Unsized, Wanted, Other, NoPageWord, page_seen, page_loaded, page_swapped}
+use Rattle.ds_plain.specs.Searching.{PageSeen, Unsized, Wanted, Other, NoPageWord, page_seen, page_loaded}
+use Rattle.ds_plain.specs.Searching.{page_swapped}
 use Rattle.ds_plain.specs.Searching.{BlockSeen, Unused, Used, NoBlockWord, block_seen, block_loaded, block_swapped}
 use Rattle.ds_plain.specs.Searching.{alloc_event}
 use Rattle.ds_plain.specs.Freeing.{StartSeen, StartOf, NoStart, start_seen, start_loaded, LifeSeen, LiveIn, NotLive}
 use Rattle.ds_plain.specs.Freeing.{life_seen, life_loaded, life_swapped, free_event}
 use Rattle.ds_plain.specs.Freeing as freeing
+use Rattle.ds_plain.specs.Listing.{HeaderSeen, HasRoom, HasNoRoom, OfOther, NoHeader, header_seen, header_loaded}
+use Rattle.ds_plain.specs.Listing.{list_event}
+use Rattle.ds_plain.specs.Noting.{HeldSeen, HeldIn, HeldByNone, held_seen, held_loaded, found_loaded, note_event}
+use Rattle.ds_plain.specs.Noting as noting
 use Rattle.ds_plain.specs.Turns.{Neither, passing_of, ends_thread}
 
 -- the event gives out no thread and ends none
@@ -116,6 +126,41 @@ module _ (lim : Bounds) where
 
   pub malloc_goes_on : (at : AllocAt) (old : ℕ) → ends_thread (passing_of (alloc_event lim at old)) ≡ false
   malloc_goes_on at old = ap ends_thread (malloc_passes at old)
+
+load_header_passes : (seen : HeaderSeen) → Passes (header_loaded seen)
+load_header_passes HasRoom = refl
+load_header_passes HasNoRoom = refl
+load_header_passes OfOther = refl
+load_header_passes NoHeader = refl
+
+pub list_passes : (lim : Bounds) (at : ListAt) (old : ℕ) → Passes (list_event lim at old)
+list_passes lim (lists.LoadHome place life) old = refl
+list_passes lim (lists.DrawLog place life) old =
+    cond_both (nat_lt old lim.logs) events.Log (events.Full tables.Logs) Passes (λ e. refl) (λ e. refl)
+list_passes lim (lists.StoreHeader place life log) old = refl
+list_passes lim (lists.StoreHome place life log) old = refl
+list_passes lim (lists.LoadHeader place life log) old = load_header_passes (header_seen life old)
+
+load_held_passes : (seen : HeldSeen) → Passes (held_loaded seen)
+load_held_passes (HeldIn place start) = refl
+load_held_passes HeldByNone = refl
+load_held_passes noting.NoPageWord = refl
+
+load_found_passes : (place start : ℕ) (seen : LifeSeen) → Passes (found_loaded place start seen)
+load_found_passes place start (LiveIn life) = refl
+load_found_passes place start NotLive = refl
+load_found_passes place start freeing.NoBlockWord = refl
+
+pub note_passes : (lim : Bounds) (at : NoteAt) (old : ℕ) → Passes (note_event lim at old)
+note_passes lim (notes.LoadPage loc value) old = load_held_passes (held_seen value old)
+note_passes lim (notes.LoadBlock loc place start) old = load_found_passes place start (life_seen old)
+note_passes lim (notes.Seek loc at) old = list_passes lim at old
+note_passes lim (notes.StoreLife loc place life log) old = refl
+note_passes lim (notes.StoreEntry loc place life log used) old = refl
+note_passes lim (notes.CountEntry loc place life log used) old = refl
+
+pub note_goes_on : (lim : Bounds) (at : NoteAt) (old : ℕ) → ends_thread (passing_of (note_event lim at old)) ≡ false
+note_goes_on lim at old = ap ends_thread (note_passes lim at old)
 
 load_start_passes : (seen : StartSeen) → Passes (start_loaded seen)
 load_start_passes (StartOf place) = refl

@@ -11,8 +11,8 @@ use Rattle.ds_map.specs.Words.{first_words, words as words_of}
 use Rattle.ds_step.specs.declared.Step.{Step}
 use Rattle.ds_plain.specs.declared.Cue.{Cue}
 use Rattle.ds_plain.specs.declared.Position.{Position}
-use Rattle.ds_plain.specs.declared.Position.TheVariants.{Start, Access, Malloc, Free, Spawn, Join, DrawPrint, StoreEnded}
-use Rattle.ds_plain.specs.declared.Position.TheVariants.{Over, NoRow}
+use Rattle.ds_plain.specs.declared.Position.TheVariants.{Start, Access, Malloc, Note, Free, Spawn, Join}
+use Rattle.ds_plain.specs.declared.Position.TheVariants.{DrawPrint, StoreEnded, Over, NoRow}
 use Rattle.ds_plain.specs.declared.Stop.{Stop}
 use Rattle.ds_plain.specs.declared.Stop.TheVariants.{Idle}
 use Rattle.ds_plain.specs.Thread.{Thread, first_thread, stop_at, stop_of}
@@ -59,6 +59,7 @@ ended_at : (lim : Bounds) (began : Bool) (p : Position) (units : ℕ) → FitsAt
 ended_at lim began (Start at) units fits = cc
 ended_at lim began (Access at) units fits = cc
 ended_at lim began (Malloc at) units fits = cc
+ended_at lim began (Note at) units fits = cc
 ended_at lim began (Free at) units fits = cc
 ended_at lim began (Spawn at) units fits = cc
 ended_at lim began (Join at) units fits = cc

@@ -13,8 +13,8 @@ use Rattle.ds_step.specs.declared.Step.{Step}
 use Rattle.ds_step.specs.Word.{words_after, answer_on}
 use Rattle.ds_plain.specs.declared.Cue.{Cue}
 use Rattle.ds_plain.specs.declared.Position.{Position}
-use Rattle.ds_plain.specs.declared.Position.TheVariants.{Start, Access, Malloc, Free, Spawn, Join, DrawPrint, StoreEnded}
-use Rattle.ds_plain.specs.declared.Position.TheVariants.{Over, NoRow}
+use Rattle.ds_plain.specs.declared.Position.TheVariants.{Start, Access, Malloc, Note, Free, Spawn, Join}
+use Rattle.ds_plain.specs.declared.Position.TheVariants.{DrawPrint, StoreEnded, Over, NoRow}
 use Rattle.ds_plain.specs.State.{replaced}
 use Rattle.ds_plain.specs.Table.{op_at, step_at, is_over}
 use Rattle.ds_plain.specs.Thread.{Thread, moved}
@@ -87,6 +87,7 @@ step_turned : (p : Position) (step : Step) → step_in (turn_by p step) ≡ step
 step_turned (Start at) step = step_waiting step
 step_turned (Access at) step = step_waiting step
 step_turned (Malloc at) step = step_waiting step
+step_turned (Note at) step = step_waiting step
 step_turned (Free at) step = step_waiting step
 step_turned (Spawn at) step = step_waiting step
 step_turned (Join at) step = step_waiting step

@@ -3,8 +3,8 @@
 use Rattle.std.specs.Prelude.{◌≡◌, ℕ, suc, ◌-◌, ◌<◌, ◌≤◌, Bool, true, false}
 use Rattle.ds_map.specs.Bounds.{Bounds}
 use Rattle.ds_plain.specs.declared.Position.{Position}
-use Rattle.ds_plain.specs.declared.Position.TheVariants.{Start, Access, Malloc, Free, Spawn, Join, DrawPrint, StoreEnded}
-use Rattle.ds_plain.specs.declared.Position.TheVariants.{Over, NoRow}
+use Rattle.ds_plain.specs.declared.Position.TheVariants.{Start, Access, Malloc, Note, Free, Spawn, Join}
+use Rattle.ds_plain.specs.declared.Position.TheVariants.{DrawPrint, StoreEnded, Over, NoRow}
 use Rattle.ds_plain.specs.Asking.{AsksRows}
 use Rattle.ds_plain.specs.Explained.{HasEnded}
 use Rattle.ds_plain.specs.Thread.{Thread}
@@ -14,6 +14,7 @@ abbrev pub FitsAt : Bounds → (ended : Bool) → Position → (units : ℕ) →
 FitsAt lim ended (Start at) units = (ended ≡ false) × (units < lim.fuel)
 FitsAt lim ended (Access at) units = (ended ≡ false) × (units < lim.fuel)
 FitsAt lim ended (Malloc at) units = (ended ≡ false) × (units < lim.fuel)
+FitsAt lim ended (Note at) units = (ended ≡ false) × (units < lim.fuel)
 FitsAt lim ended (Free at) units = (ended ≡ false) × (units < lim.fuel)
 FitsAt lim ended (Spawn at) units = (ended ≡ false) × (units < lim.fuel)
 FitsAt lim ended (Join at) units = (ended ≡ false) × (units < lim.fuel)
@@ -32,6 +33,7 @@ abbrev pub steps_left : (fuel : ℕ) → Position → (units : ℕ) → ℕ
 steps_left fuel (Start at) units = suc (fuel - units)
 steps_left fuel (Access at) units = suc (fuel - units)
 steps_left fuel (Malloc at) units = suc (fuel - units)
+steps_left fuel (Note at) units = suc (fuel - units)
 steps_left fuel (Free at) units = suc (fuel - units)
 steps_left fuel (Spawn at) units = suc (fuel - units)
 steps_left fuel (Join at) units = suc (fuel - units)
