@@ -12,5 +12,6 @@ pub mod Worked
 pub mod Threaded
 pub mod Loops
 pub mod Rows
+pub mod Noting
 pub mod Accesses
 pub mod Spawns

@@ -1,5 +1,5 @@
 -- Small modules, written by hand, and what a run of one is.
-use Rattle.std.specs.Prelude.{◌≡◌, ℕ, true, List, [], ◌∷◌, ◌++◌, map, replicate, Some, None, codes}
+use Rattle.std.specs.Prelude.{◌≡◌, ℕ, true, false, List, [], ◌∷◌, ◌++◌, map, replicate, Some, None, codes}
 use Rattle.std.specs.List.{range_with_len}
 use Rattle.ds_ast.specs.declared.name.Name.TheVariants.{Number, Text}
 use Rattle.ds_ast.specs.declared.ty.Scalar.{Scalar}
@@ -148,9 +148,9 @@ abbrev pub example : Module → Bounds → Events → List Stop → List ℕ →
 example code lim made stops out counts =
     record { code = code; lim = lim; made = made; stops = stops; out = out; counts = counts }
 
--- the setting of the run
+-- the setting of the run, in which no free is taken at its word
 abbrev pub setting_in : Example → Setting
-setting_in e = setting_of (program_of true e.lim e.code) e.lim e.stops
+setting_in e = record (setting_of (program_of true e.lim e.code) e.lim e.stops) { weak = false }
 
 -- the state with which it ends
 abbrev pub end_of : Example → State

@@ -38,6 +38,8 @@ ghost use Rattle.ds_tried.specs.Rounds.{TenThousandEndARound, OneUnitLessGoesOn,
 ghost use Rattle.ds_tried.specs.Rounds.{MainEndsInTheLast};
 ghost use Rattle.ds_tried.specs.Rows.{BlockIsTakenAndFreed, OthersAreSeen, StrangeWordsAreAskedAgain, NullIsTold};
 ghost use Rattle.ds_tried.specs.Rows.{PagesAreLookedAtRound, NoStartsAreRefused, SecondFreesAreRefused};
+ghost use Rattle.ds_tried.specs.Noting.{TwoLivesAreNoted, NoBlockIsSkipped, NoLifeIsSkipped};
+ghost use Rattle.ds_tried.specs.Noting.{StrangeLogsAreAskedAgain, FullTablesStop};
 ghost use Rattle.ds_tried.specs.Accesses.{SubtractionWraps, ExpectedWordIsReplaced, NeighboursStay, OtherWritesStay};
 ghost use Rattle.ds_tried.specs.Accesses.{NarrowSumWraps, OtherByteIsLoaded};
 ghost use Rattle.ds_tried.specs.Spawns.{ThreadIsStarted, SeventeenthIsRefused, EndIsAwaited, OthersAreNotJoined};
@@ -265,6 +267,15 @@ pub fn rows_are_followed()
     ensures round { PagesAreLookedAtRound }
     ensures no_starts { NoStartsAreRefused }
     ensures second_frees { SecondFreesAreRefused }
+{}
+
+/// The steps of a note follow the step table.
+pub fn notes_are_followed()
+    ensures two_lives { TwoLivesAreNoted }
+    ensures no_block { NoBlockIsSkipped }
+    ensures no_life { NoLifeIsSkipped }
+    ensures strange_words { StrangeLogsAreAskedAgain }
+    ensures full { FullTablesStop }
 {}
 
 /// A use of a dangling pointer that was stored traps, and one of a pointer in a register does not.
