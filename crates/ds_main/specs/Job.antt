@@ -25,17 +25,18 @@ pub record Options : Type 0 where
   pub seed : Option ℕ
   pub pages : Option ℕ
   pub fuel : Option ℕ
+  pub logs : Option ℕ
 
 abbrev pub no_options : Options
-no_options = record { seed = None; pages = None; fuel = None }
+no_options = record { seed = None; pages = None; fuel = None; logs = None }
 
 -- the number of an option, where it was not given before
 abbrev pub once : (before number : Option ℕ) → Option ℕ
 once None number = number
 once (Some n) number = None
 
--- with one more option, its name and its number; none where there is no such option, it was given before, or this is no
--- number
+-- with one more option, its name and its number; none where there is no such option, it was given before, or this is
+-- no number
 abbrev pub with_option : Options → (name number : List ℕ) → Option Options
 with_option options name number =
     if bytes_eq name (codes "--seed")
@@ -43,7 +44,9 @@ with_option options name number =
     (if bytes_eq name (codes "--pages")
     then option_map (λ n. record options { pages = Some n }) (once options.pages (number_in number)) else
     (if bytes_eq name (codes "--fuel")
-    then option_map (λ n. record options { fuel = Some n }) (once options.fuel (number_in number)) else None))
+    then option_map (λ n. record options { fuel = Some n }) (once options.fuel (number_in number)) else
+    (if bytes_eq name (codes "--logs")
+    then option_map (λ n. record options { logs = Some n }) (once options.logs (number_in number)) else None)))
 
 abbrev pub if_options : (Options → Option Options) → Option Options → Option Options
 if_options go None = None
@@ -56,13 +59,15 @@ options_from options (name ∷ []) = None
 options_from options (name ∷ number ∷ words) =
     if_options (λ more. options_from more words) (with_option options name number)
 
--- the limits of a run with these options: 1 to 4,096 pages, and 1 to 2,000,000 units for each thread
+-- the limits of a run with these options: 1 to 4,096 pages, 1 to 2,000,000 units for each thread, and at most
+-- 1,048,576 logs
 abbrev pub limits_of : Options → Option Bounds
 limits_of options =
     let pages = unwrap_or options.pages default_limits.pages in
     let fuel = unwrap_or options.fuel default_limits.fuel in
-    if (nat_le 1 pages && nat_le pages 4096) && (nat_le 1 fuel && nat_le fuel 2000000)
-    then Some (record default_limits { pages = pages; fuel = fuel }) else None
+    let logs = unwrap_or options.logs default_limits.logs in
+    if (nat_le 1 pages && nat_le pages 4096) && (nat_le 1 fuel && nat_le fuel 2000000) && nat_le logs 1048576
+    then Some (record default_limits { pages = pages; fuel = fuel; logs = logs }) else None
 
 -- what a run is asked for: the seed of its schedule, which is 0 where none is given, and its limits
 pub record Setting : Type 0 where
@@ -99,7 +104,8 @@ NoJob words = (job : Job) → IsJob words job → ⊥
 
 -- the options as code has them
 abbrev pub options_with : code.Options → Options
-options_with options = record { seed = options.seed; pages = options.pages; fuel = options.fuel }
+options_with options =
+    record { seed = options.seed; pages = options.pages; fuel = options.fuel; logs = options.logs }
 
 -- what a run is asked for as code has it
 abbrev pub setting_with : given.Setting → Setting

@@ -39,12 +39,16 @@ const MOST_PAGES: u64 = 4096;
 /// The most units that a thread may be given.
 const MOST_FUEL: u64 = 2_000_000;
 
+/// The most logs that a run may have.
+const MOST_LOGS: u64 = 1_048_576;
+
 /// The options of a run that were given.
 #[derive(Clone, Copy)]
 struct Options {
     seed: Option<u64>,
     pages: Option<u64>,
     fuel: Option<u64>,
+    logs: Option<u64>,
 }
 
 /// What a run is asked for.
@@ -98,6 +102,10 @@ fn with_option(options: Options, name: &[u8], number: &[u8]) -> Option<Options>
         let fuel = Some(once(options.fuel, number_in(number))?);
         return Some(Options { fuel, ..options });
     }
+    if name == b"--logs".as_slice() {
+        let logs = Some(once(options.logs, number_in(number))?);
+        return Some(Options { logs, ..options });
+    }
     None
 }
 
@@ -109,6 +117,7 @@ fn options_in(words: &[String]) -> Option<Options>
         seed: None,
         pages: None,
         fuel: None,
+        logs: None,
     };
     let mut rest = words;
     'pairs: while let Some((name, behind)) = rest.split_first() {
@@ -126,10 +135,11 @@ fn limits_of(options: Options) -> Option<Limits>
     let limits = Limits::default_limits();
     let pages = options.pages.unwrap_or(u64::from(limits.pages()));
     let fuel = options.fuel.unwrap_or(u64::from(limits.fuel()));
-    if pages > MOST_PAGES || fuel > MOST_FUEL {
+    let logs = options.logs.unwrap_or(u64::from(limits.logs()));
+    if pages > MOST_PAGES || fuel > MOST_FUEL || logs > MOST_LOGS {
         return None;
     }
-    Limits::new(pages as u32, fuel as u32, limits.logs(), limits.hash())
+    Limits::new(pages as u32, fuel as u32, logs as u32, limits.hash())
 }
 
 /// What a run with these options is asked for.
@@ -166,8 +176,9 @@ fn is_only_word(words: &[String], word: &[u8]) -> bool
 }
 
 /// The job that has these words, which stand behind the program's name: `check` or `instrument` alone, or `replay` and
-/// then options, `--seed N` with N from 0 to 2^64 - 1, `--pages N` with N from 1 to 4,096 and `--fuel N` with N from 1
-/// to 2,000,000, each at most once, in any order. N is 1 to 20 decimal digits without a sign.
+/// then options, `--seed N` with N from 0 to 2^64 - 1, `--pages N` with N from 1 to 4,096, `--fuel N` with N from 1 to
+/// 2,000,000 and `--logs N` with N from 0 to 1,048,576, each at most once, in any order. N is 1 to 20 decimal digits
+/// without a sign.
 ///
 /// # Errors
 ///

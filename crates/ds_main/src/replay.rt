@@ -3,8 +3,7 @@
 ghost use Rattle.std.specs.Prelude.{◌≡◌};
 ghost use Rattle.ds_main.specs.Ending.{reading, writing, ReplayEnds};
 
-use crate::accept::accept;
-use crate::input::read_module;
+use crate::input::accepted_module;
 use crate::refuse::stop;
 use crate::run::run_and_report;
 use ds_core::Ended;
@@ -12,7 +11,7 @@ use ds_io::{Sink, Source};
 use ds_map::Limits;
 use std::alloc::Global;
 
-/// Reads a module, runs it by the schedule of a seed within these limits, and reports the run.
+/// Reads a module, runs it with its notes by the schedule of a seed within these limits, and reports the run.
 pub fn replay<S: Source, K: Sink>(
     alloc: Global,
     seed: u64,
@@ -23,12 +22,8 @@ pub fn replay<S: Source, K: Sink>(
     ensures { ReplayEnds seed limits.now (reading S.left S.faults source.old source.new)
         (writing K.taken K.faults sink.old sink.new) result }
 {
-    let module = match read_module(alloc, source) {
-        Ok(module) => module,
-        Err(why) => return stop(alloc, sink, &why),
-    };
-    match accept(alloc, &module) {
-        Ok(shapes) => run_and_report(alloc, seed, limits, sink, &module, &shapes),
+    match accepted_module(alloc, source) {
+        Ok(module) => run_and_report(alloc, seed, limits, sink, &module),
         Err(why) => stop(alloc, sink, &why),
     }
 }

@@ -1,6 +1,5 @@
 //! What no clause says and no run of the program shows.
 
-use crate::accept::accept;
 use crate::input::accepted_module;
 use crate::job::{ArgsFault, Job, read_words};
 use crate::pace::{FreePace, Pace};
@@ -18,20 +17,11 @@ fn replayed(alloc: Global, text: &[u8], cues: Vec<Cue>) -> Result<Vec<u8>, Fail>
     let Ok(module) = accepted_module(alloc, &mut source) else {
         return Err(Fail::new("not accepted"));
     };
-    let Ok(shapes) = accept(alloc, &module) else {
-        return Err(Fail::new("not accepted"));
-    };
     let schedule = Schedule {
         cues: Cues::new(cues),
         seed: 0,
     };
-    let record = run(
-        alloc,
-        &schedule,
-        &Limits::default_limits(),
-        &module,
-        &shapes,
-    )?;
+    let record = run(alloc, &schedule, &Limits::default_limits(), &module)?;
     let report = report_of(alloc, &module, &record)?;
     Ok(report)
 }
@@ -79,5 +69,30 @@ fn reads_the_words_of_a_job(rt: HostRuntime) -> Result<(), Fail> {
     assert_eq!(rt; read_words(check.as_slice()).ok(), Some(Job::Check));
     assert_eq!(rt; read_words(&[]).err(), Some(ArgsFault::Usage));
     FreePace.enter(15);
+    Ok(())
+}
+
+/// The module of a pointer that is stored, freed and used again, as it was read, and its copy.
+#[test]
+fn a_copy_equals_the_module_that_was_read(rt: HostRuntime) -> Result<(), Fail> {
+    let text = b"@g = global ptr null
+define i32 @main() {
+  %p = call ptr @malloc(i64 16)
+  store ptr %p, ptr @g
+  call void @free(ptr %p)
+  %q = load ptr, ptr @g
+  store i64 7, ptr %q
+  ret i32 0
+}
+declare ptr @malloc(i64)
+declare void @free(ptr)
+";
+    let bytes = Vec::from_slice(rt.alloc(), text.as_slice())?;
+    let mut source = MemSource::new(bytes, 4096, Vec::new(rt.alloc()));
+    let Ok(module) = accepted_module(rt.alloc(), &mut source) else {
+        return Err(Fail::new("not accepted"));
+    };
+    let copy = module.copy(rt.alloc())?;
+    assert!(rt; copy == module);
     Ok(())
 }
