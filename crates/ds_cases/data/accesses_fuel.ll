@@ -1,4 +1,4 @@
-; Narrow accesses and exchanges, with a print behind each: 43 units in all.
+; Narrow accesses and exchanges, with a print behind each: 45 units in all, two of them for notes.
 @g = global i64 -1
 @p = global ptr @g
 define i32 @main() {
