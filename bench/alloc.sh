@@ -9,7 +9,8 @@
 
 cat >"$work/alloc.py" <<'PYTHON'
 """usage: alloc.py PROGRAM FOLDER"""
-import os, resource, subprocess, sys, time
+import sys
+from doubled import doubled
 
 program, folder = sys.argv[1:]
 SIZES = [2, 4, 6, 8, 12, 16, 24, 32, 48, 64, 96, 128, 192, 256, 512]
@@ -127,39 +128,9 @@ def full(pairs, size, pages):
     return module, pages, 8 + 3 * taken + 6 * pairs + steps
 
 
-def timed(module, pages, fuel, status, runs=3):
-    """The seconds of the best of some runs."""
-    path = os.path.join(folder, 'input')
-    open(path, 'w').write(module)
-    words = [program, 'replay', '--pages', str(pages), '--fuel', str(fuel)]
-    best = None
-    for _ in range(runs):
-        with open(path, 'rb') as given:
-            began = time.perf_counter()
-            ended = subprocess.run(words, stdin=given, stdout=subprocess.DEVNULL).returncode
-            took = time.perf_counter() - began
-        best = took if best is None else min(best, took)
-        if ended != status:
-            print(f'alloc.sh: status {ended} in place of {status} with {fuel} units', file=sys.stderr)
-            sys.exit(1)
-    return best
-
-
 def bench(label, made, least):
     """Runs a program with so many pairs, and three times twice as many."""
-    before = None
-    for pairs in (least, 2 * least, 4 * least, 8 * least):
-        module, pages, units = made(pairs)
-        start = timed('define void @main() { ret void }\n', pages, 2, 0)
-        net = timed(module, pages, units, 0) - start
-        timed(module, pages, units - 1, 9, 1)
-        rate = f'{units / net:12,.0f}' if net > 0.001 else f'{"-":>12}'
-        times = f'{net / before:6.2f} times' if before is not None and before > 0.001 else ''
-        late = ', more than 2.2' if times and net > 2.2 * before else ''
-        peak = resource.getrusage(resource.RUSAGE_CHILDREN).ru_maxrss / 1024
-        print(f'{label:<26} {pairs:>7,} pairs {units:>10,} units {net:7.3f} s {peak:7.1f} MB'
-              f' {rate} units a second {times}{late}')
-        before = net
+    doubled(program, folder, label, 'pairs', least, lambda pairs: (pairs, *made(pairs)))
 
 
 bench('one size', one_size, 10000)
@@ -167,4 +138,4 @@ bench('15 sizes in turn', all_sizes, 10000)
 bench('one block of 4 is free', lambda pairs: full(pairs, 11, 1), 10000)
 bench('one block of 2,048 is free', lambda pairs: full(pairs, 0, 8), 100)
 PYTHON
-python3 "$work/alloc.py" "$top/crates/dangsan/out/dangsan" "$work"
+PYTHONPATH="$top/bench" PYTHONDONTWRITEBYTECODE=1 python3 "$work/alloc.py" "$top/crates/dangsan/out/dangsan" "$work"
