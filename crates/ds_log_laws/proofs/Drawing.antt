@@ -1,7 +1,7 @@
 -- What a draw of a log makes of the logs.
 use Rattle.std.proofs.Common.{◌≡◌, ℕ, suc, ◌+◌, ◌%◌, ◌^◌, ◌<◌, ◌≤◌, nat_lt, List, length, refl, sym, ap, ◌∙◌}
 use Rattle.std.proofs.Common.{subst, inl, inr, ◌⊎◌, arith, slice_index, slice_set, mod-eq_of_lt}
-use Rattle.std.proofs.lemmas.Bool.{cases_lt}
+use Rattle.std.proofs.lemmas.Bool.{cases_eq, cases_lt}
 use Rattle.std.proofs.lemmas.Bool.Decides.{nat_tests}
 use Rattle.std.proofs.lemmas.List.{get_or-set_same, get_or-set_other}
 use Rattle.ds_map.specs.Bounds.{Bounds}
@@ -10,12 +10,12 @@ use Rattle.ds_step.specs.declared.FullWhat.TheVariants as tables
 use Rattle.ds_step.specs.declared.Step.{Step}
 use Rattle.ds_plain.specs.declared.ListAt.TheVariants.{StoreHeader}
 use Rattle.ds_plain.specs.State.{replaced}
-use Rattle.ds_plain.specs.Listing.{home_word, header_word, ListsOn, FailsList, behind_log_draw}
+use Rattle.ds_plain.specs.Listing.{home_word, header_word, entry_word, ListsOn, FailsList, behind_log_draw}
 use Rattle.ds_plain.specs.Noting.{behind_list}
 use Rattle.ds_log_laws.proofs.Choices.{of_test, replaced_same, replaced_other}
-use Rattle.ds_log_laws.proofs.Links.{home, header, Logs, HasDrawn, IsDrawn, Counted, Past, OwnsAll, OwnsOthers, Knows}
-use Rattle.ds_log_laws.proofs.Links.{Lists}
-use Rattle.ds_log_laws.proofs.Others.{Later, Passes, own_on}
+use Rattle.ds_log_laws.proofs.Links.{home, header, entry, Logs, HasDrawn, IsDrawn, Counted, Past, Kept, KeptAll}
+use Rattle.ds_log_laws.proofs.Links.{OwnsAll, OwnsOthers, Knows, IsLocation, Lists}
+use Rattle.ds_log_laws.proofs.Others.{Later, Passes, same_holds, own_on}
 use Rattle.ds_log_laws.proofs.Goes.{Goes}
 
 module _ (lim : Bounds) (traces : List (List Step)) (words : List ℕ) (logs : Logs) (t : ℕ) (past : Past)
@@ -98,6 +98,10 @@ module _ (lim : Bounds) (traces : List (List Step)) (words : List ℕ) (logs : L
   risen_header log =
       get_or-set_other words 3 (header_word lim log) ((slice_index words 3 + 1) % 2 ^ 64) 0 (λ e. omega (arith, e))
 
+  risen_entry : (log n : ℕ) → entry lim risen log n ≡ entry lim words log n
+  risen_entry log n =
+      get_or-set_other words 3 (entry_word lim log n) ((slice_index words 3 + 1) % 2 ^ 64) 0 (λ e. omega (arith, e))
+
   one_later : Later logs one_more
   one_later = record { least = omega arith; places = place_before; owners = owner_before }
 
@@ -107,7 +111,10 @@ module _ (lim : Bounds) (traces : List (List Step)) (words : List ℕ) (logs : L
         home_is = risen_homes t place';
         before = λ has. had has (before_or_now has.number has.drawn);
         headers = λ log drawn few' place_is owner_is. risen_header log;
+        holds = λ log since used drawn few' place_is owner_is is used_few.
+            same_holds lim words risen log log used (λ n lt. risen_entry log n);
         noted = λ since. refl;
+        has = λ since loc. refl;
         seen = omega arith;
         seen_now = λ now. now;
       }) (owns place' inside)
@@ -121,6 +128,17 @@ module _ (lim : Bounds) (traces : List (List Step)) (words : List ℕ) (logs : L
         owner_is = sym (owner_before has.number ln) ∙ has.owner_is;
       }
       had has (inr is) = absurd (ne (sym (place_now has.number is) ∙ has.place_is))
+
+  drawn_kept : KeptAll lim traces risen one_more t past lives
+  drawn_kept place' inside = by (cases_eq place place')
+    where
+      by : ((place ≡ place') ⊎ (place ≡ place' → ⊥)) → Kept lim traces risen one_more t past lives place'
+      by (inl is) = subst (Kept lim traces risen one_more t past lives) is (record {
+        unnoted = λ no since. (owns place knows.place_is).kept.unnoted no_home since;
+        some = λ log at. absurd (omega (arith, at, risen_homes t place, no_home));
+        seen_now = (owns place knows.place_is).kept.seen_now;
+      })
+      by (inr ne) = (drawn_others place' inside ne).kept
 
   drew_now : logs.count < lim.logs → Lists lim traces risen one_more t past lives (StoreHeader place life logs.count)
   drew_now less = (
@@ -138,23 +156,26 @@ module _ (lim : Bounds) (traces : List (List Step)) (words : List ℕ) (logs : L
       place_is = place_now logs.count refl;
       owner_is = owner_now logs.count refl;
       no_home = risen_homes t place ∙ no_home;
-      unnoted = (owns place knows.place_is).unnoted no_home;
+      unnoted = (owns place knows.place_is).kept.unnoted no_home;
     },
   )
 
-  pub drawn_goes : (loc old : ℕ) → old ≡ logs.count
+  pub drawn_goes : (loc old : ℕ) → IsLocation lim traces words logs t past lives loc → old ≡ logs.count
       → Goes lim traces risen one_more t past lives (behind_list loc place life (behind_log_draw lim place life old))
-  drawn_goes loc old is =
+  drawn_goes loc old located is =
       of_test (λ next. Goes lim traces risen one_more t past lives (behind_list loc place life next))
       (nat_lt old lim.logs) (ListsOn (StoreHeader place life old)) (FailsList tables.Logs)
-      (λ e. let less : logs.count < lim.logs = grind (arith, nat_tests, e, is) in
-      subst (λ n. Lists lim traces risen one_more t past lives (StoreHeader place life n)) (sym is) (drew_now less))
-      (λ e. grind (arith, nat_tests, e, is))
+      (λ e. let less : logs.count < lim.logs = grind (arith, nat_tests, e, is) in (
+        subst (λ n. Lists lim traces risen one_more t past lives (StoreHeader place life n)) (sym is) (drew_now less),
+        located,
+      ))
+      (λ e. (grind (arith, nat_tests, e, is), drawn_kept))
 
   pub drawn_passes : Passes lim t words risen logs one_more
   drawn_passes = record {
     homes = λ u place' few' inside ne. risen_homes u place';
     headers = λ log drawn few' ne. risen_header log;
+    entries = λ log n drawn few' ne lt. risen_entry log n;
     later = one_later;
     drawn = λ n lt. or_mine n (before_or_now n lt);
   }

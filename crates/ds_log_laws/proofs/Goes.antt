@@ -1,6 +1,6 @@
 -- Where a note goes on, by what it sees.
 use Rattle.std.proofs.Common.{◌≡◌, ℕ, ◌+◌, ◌-◌, ◌<◌, ◌≤◌, ◌==◌, true, false, if◌then◌else◌}
-use Rattle.std.proofs.Common.{nat_le, nat_lt, List, sym, ap, ◌∙◌, subst, arith, eqb-true}
+use Rattle.std.proofs.Common.{nat_le, nat_lt, List, sym, ap, ◌∙◌, subst, arith, eqb-true, ltb-true}
 use Rattle.std.proofs.lemmas.Bool.{and_parts, eq-eqb}
 use Rattle.std.proofs.lemmas.Bool.Decides.{nat_tests}
 use Rattle.ds_map.specs.Bounds.{Bounds}
@@ -18,8 +18,8 @@ use Rattle.ds_plain.specs.Noting.{HasSkipped, FailsNote, behind_held_load, with_
 use Rattle.ds_plain.specs.Thread.{Thread, moved_from_note}
 use Rattle.ds_log_laws.proofs.Choices.{of_if, of_test}
 use Rattle.ds_log_laws.proofs.Places.{IsHeldInside, held_inside}
-use Rattle.ds_log_laws.proofs.Links.{home, header, Logs, Past, Logged, OwnsAll, Knows, IsHome, Lists, Notes, EndsFull}
-use Rattle.ds_log_laws.proofs.Links.{IsLinked, standing_linked, going_linked}
+use Rattle.ds_log_laws.proofs.Links.{home, header, Logs, Past, Logged, KeptAll, OwnsAll, Knows, IsHome, IsHeader, Lists}
+use Rattle.ds_log_laws.proofs.Links.{IsLocation, Notes, EndsFull, IsLinked, kept_owns, standing_linked, going_linked}
 
 -- what a header tells
 pub life_is : (life used : ℕ) → used ≤ log_entries → life_in (header_of life used 0) ≡ life
@@ -34,7 +34,7 @@ module _ (lim : Bounds) (traces : List (List Step)) (words : List ℕ) (logs : L
   Goes (NotesOn at) = Notes lim traces words logs t past lives at
   Goes HasNoted = OwnsAll lim traces words logs t past lives
   Goes HasSkipped = OwnsAll lim traces words logs t past lives
-  Goes (FailsNote what) = EndsFull lim traces words logs t past lives what
+  Goes (FailsNote what) = EndsFull lim traces words logs t past lives what × KeptAll lim traces words logs t past lives
 
   pub note_linked : (a : Thread) (next : NoteNext) → Goes next
       → IsLinked lim traces words logs t past lives (moved_from_note lim a next)
@@ -50,7 +50,11 @@ module _ (lim : Bounds) (traces : List (List Step)) (words : List ℕ) (logs : L
 
   held_goes : (loc value : ℕ) (seen : HeldSeen) → Notes lim traces words logs t past lives (LoadPage loc value)
       → IsHeldInside lim seen → Goes (behind_held_load loc value seen)
-  held_goes loc value (HeldIn place start) l inside = (l.0, inside)
+  held_goes loc value (HeldIn place start) l inside = (
+    l.0,
+    inside,
+    ltb-true loc (program_words lim) (and_parts (nat_lt loc (program_words lim)) (lies_in (heap lim) value) l.1).0,
+  )
   held_goes loc value HeldByNone l inside = l.0
   held_goes loc value NoPageWord l inside = l
 
@@ -64,38 +68,47 @@ module _ (lim : Bounds) (traces : List (List Step)) (words : List ℕ) (logs : L
 
   pub home_goes : (loc place life old : ℕ) → old ≡ home lim words t place
       → Lists lim traces words logs t past lives (LoadHome place life)
+      → IsLocation lim traces words logs t past lives loc
       → Goes (behind_list loc place life (behind_home_load place life (home_seen lim old)))
-  home_goes loc place life old is l =
+  home_goes loc place life old is l located =
       of_test (λ seen. Goes (behind_list loc place life (behind_home_load place life seen))) (old == 0) NoHome
       (if nat_le old lim.logs then HomeOf (old - 1) else NoHomeWord)
-      (λ e. (l.0, l.1, sym is ∙ eqb-true old 0 e))
+      (λ e. ((l.0, l.1, sym is ∙ eqb-true old 0 e), located))
       (λ e. let one : old ≡ (old - 1) + 1 = grind (arith, nat_tests, e) in
       of_if (λ seen. Goes (behind_list loc place life (behind_home_load place life seen))) (nat_le old lim.logs)
-      (HomeOf (old - 1)) NoHomeWord (l.0, l.1, sym is ∙ one) l)
+      (HomeOf (old - 1)) NoHomeWord ((l.0, l.1, sym is ∙ one), located) (l, located))
 
   pub with_log_goes : (loc place life log word : ℕ) → OwnsAll lim traces words logs t past lives
       → Knows lim traces words logs t past lives place life → IsHome lim traces words logs t past lives place log
-      → (life_in word ≡ life → (past.noted place life ≡ used_in word) × (used_in word < log_entries))
-      → ((life_in word ≡ life → ⊥) → past.noted place life ≡ 0)
+      → (life_in word ≡ life → (past.noted place life ≡ used_in word) × (used_in word < log_entries)
+      × IsHeader lim traces words logs t past lives life log (used_in word))
+      → ((life_in word ≡ life → ⊥) → past.noted place life ≡ 0) → IsLocation lim traces words logs t past lives loc
       → Goes (with_log loc place life log word)
-  with_log_goes loc place life log word owns knows is_home same other =
+  with_log_goes loc place life log word owns knows is_home same other located =
       of_test Goes (life_in word == life) (NotesOn (StoreEntry loc place life log (used_in word)))
       (NotesOn (StoreLife loc place life log))
-      (λ e. let known = same (eqb-true (life_in word) life e) in
-      record { owns = owns; knows = knows; is_home = is_home; noted = known.0; left = known.1 })
-      (λ e. record {
-        owns = owns;
-        knows = knows;
-        is_home = is_home;
-        noted = other (λ is. let yes' : (life_in word == life) ≡ true = eq-eqb (life_in word) life is in
-            absurd (cc (e, yes')));
-        left = omega arith;
-      })
+      (λ e. let known = same (eqb-true (life_in word) life e) in (
+        record { owns = owns; knows = knows; is_home = is_home; noted = known.0; left = known.1 },
+        known.2,
+        located,
+      ))
+      (λ e. (
+        record {
+          owns = owns;
+          knows = knows;
+          is_home = is_home;
+          noted = other (λ is. let yes' : (life_in word == life) ≡ true = eq-eqb (life_in word) life is in
+              absurd (cc (e, yes')));
+          left = omega arith;
+        },
+        located,
+      ))
 
   module _ (loc place life log old : ℕ) (is : old ≡ header lim words log)
-      (l : Lists lim traces words logs t past lives (LoadHeader place life log)) where
+      (l : Lists lim traces words logs t past lives (LoadHeader place life log))
+      (located : IsLocation lim traces words logs t past lives loc) where
     abbrev own_log : Logged lim traces words logs t past lives place log
-    own_log = (l.0 place l.1.place_is).some log l.2
+    own_log = (l.0 place l.1.place_is).kept.some log l.2
 
     old_is : old ≡ header_of own_log.life own_log.used 0
     old_is = is ∙ own_log.header_is
@@ -109,6 +122,11 @@ module _ (lim : Bounds) (traces : List (List Step)) (words : List ℕ) (logs : L
     noted_here : life_in old ≡ life → past.noted place life ≡ used_in old
     noted_here same =
         subst (λ since. past.noted place since ≡ used_in old) (sym old_life ∙ same) (own_log.noted ∙ sym old_used)
+
+    header_here : life_in old ≡ life → IsHeader lim traces words logs t past lives life log (used_in old)
+    header_here same =
+        own_log.header_is ∙ (ap (λ since. header_of since own_log.used 0) (sym old_life ∙ same)
+        ∙ ap (λ used. header_of life used 0) (sym old_used))
 
     noted_none : (life_in old ≡ life → ⊥) → past.noted place life ≡ 0
     noted_none ne = own_log.none_later life (less (λ same. ne (old_life ∙ same)))
@@ -126,18 +144,21 @@ module _ (lim : Bounds) (traces : List (List Step)) (words : List ℕ) (logs : L
         (λ here. let same : life_in old ≡ life = eqb-true (life_in old) life here in
         of_test (λ seen. Goes (behind_list loc place life (behind_header_load place life log old seen)))
         (used_in old == log_entries) HasNoRoom HasRoom
-        (λ e. record {
-          place = place;
-          life = life;
-          found_is = l.1.found_is;
-          noted = noted_here same ∙ eqb-true (used_in old) log_entries e;
-        })
+        (λ e. (
+          record {
+            place = place;
+            life = life;
+            found_is = l.1.found_is;
+            noted = noted_here same ∙ eqb-true (used_in old) log_entries e;
+          },
+          kept_owns lim traces words logs t past lives l.0,
+        ))
         (λ e. with_log_goes loc place life log old l.0 l.1 l.2
-        (λ here'. (noted_here here', less e)) noted_none))
+        (λ here'. (noted_here here', less e, header_here here')) noted_none located))
         (λ here. with_log_goes loc place life log old l.0 l.1 l.2
         (λ same. let yes' : (life_in old == life) ≡ true = eq-eqb (life_in old) life same in absurd (cc (here, yes')))
-        noted_none))
-        l
+        noted_none located))
+        (l, located)
       where
         less : (used_in old == log_entries) ≡ false → used_in old < log_entries
         less e = let few = own_log.used_few in let used = old_used in grind (arith, nat_tests, e, few, used)

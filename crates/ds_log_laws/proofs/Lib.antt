@@ -6,10 +6,14 @@ pub mod Words
 pub mod Others
 pub mod Makes
 pub mod Goes
+pub mod Entries
 pub mod Stores
 pub mod Drawing
 pub mod Noted
 pub mod Lives
 pub mod Bounded
+pub mod Tied
+pub mod Logged
 pub mod First
 pub mod Runs
+pub mod Moments

@@ -1,8 +1,13 @@
 -- How a recorded thread and its own words of the logs go together, by where it stands.
-use Rattle.std.proofs.Common.{◌≡◌, ℕ, suc, ◌+◌, ◌*◌, ◌<◌, ◌≤◌, Bool, true, if◌then◌else◌, nat_lt, nat_le}
-use Rattle.std.proofs.Common.{List, [], Option, Some, None, refl, slice_index}
+use Rattle.std.proofs.Common.{◌≡◌, ℕ, suc, ◌+◌, ◌*◌, ◌<◌, ◌≤◌, Bool, true, false, ◌==◌, ◌&&◌, ◌||◌}
+use Rattle.std.proofs.Common.{if◌then◌else◌, nat_lt, nat_le, List, [], Option, Some, None, refl, slice_index, arith}
+use Rattle.std.proofs.Common.{subst, inl, inr, ◌⊎◌}
+use Rattle.std.specs.List.{list_any}
+use Rattle.std.proofs.lemmas.Bool.{cases_eq}
 use Rattle.ds_map.specs.Bounds.{Bounds}
 use Rattle.ds_map.specs.Blocks.{class_of}
+use Rattle.ds_map.specs.Regions.{program_words}
+use Rattle.ds_entry.specs.Entry.{entry_of}
 use Rattle.ds_entry.specs.Header.{log_entries, header_of}
 use Rattle.ds_step.specs.declared.Event.{Event}
 use Rattle.ds_step.specs.declared.Event.TheVariants as events
@@ -27,7 +32,7 @@ use Rattle.ds_plain.specs.declared.Position.{Position}
 use Rattle.ds_plain.specs.declared.Position.TheVariants.{Start, Access, Malloc, Note, Free, Spawn, Join}
 use Rattle.ds_plain.specs.declared.Position.TheVariants.{DrawPrint, StoreEnded, Over, NoRow}
 use Rattle.ds_plain.specs.Behaviour.{Asked, Asks, Silent, Behaviour}
-use Rattle.ds_plain.specs.Listing.{home_word, header_word}
+use Rattle.ds_plain.specs.Listing.{home_word, header_word, entry_word}
 use Rattle.ds_plain.specs.Noting.{is_notable}
 use Rattle.ds_plain.specs.Freeing.{is_freeable}
 use Rattle.ds_plain.specs.Table.{end_by, looking_for, position_of}
@@ -35,6 +40,7 @@ use Rattle.ds_plain.specs.Thread.{Thread, paying, standing, arriving, going_on}
 use Rattle.ds_plain.specs.Explained.{trace_of}
 use Rattle.ds_plain.specs.State.{replaced}
 use Rattle.ds_log_laws.specs.Told.{HasFound, notes_for, found_behind}
+use Rattle.ds_log_laws.specs.Reading.{entries_hold}
 use Rattle.ds_log_laws.proofs.Choices.{of_if, of_test}
 
 -- WHO DREW THE LOGS
@@ -67,10 +73,11 @@ pub record Counted (lim : Bounds) (traces : List (List Step)) (words : List ℕ)
 
 -- WHAT A THREAD TOLD
 
--- what a thread told so far: how many locations it noted for a life of the block at a place, what it found last, and
--- in which life it found each place last
+-- what a thread told so far: how many locations it noted for a life of the block at a place, and whether this one, what
+-- it found last, and in which life it found each place last
 pub record Past : Type 0 where
   pub noted : (place life : ℕ) → ℕ
+  pub has : (place life loc : ℕ) → Bool
   pub found : Option (ℕ × ℕ)
   pub seen : (place : ℕ) → ℕ
 
@@ -78,10 +85,16 @@ abbrev pub seen_behind : Event → (ℕ → ℕ) → ℕ → ℕ
 seen_behind (events.Found place start life) seen = replaced seen place life
 seen_behind event seen = seen
 
+-- the event notes this location for this life of the block at a place
+abbrev pub notes_at : (place life loc : ℕ) → Event → Bool
+notes_at place life loc (events.Noted other since x) = ((other == place) && (since == life)) && (x == loc)
+notes_at place life loc event = false
+
 -- behind a step
 abbrev pub past_behind : Event → Past → Past
 past_behind event past = record {
   noted = λ place life. if notes_for place life event then suc (past.noted place life) else past.noted place life;
+  has = λ place life loc. notes_at place life loc event || past.has place life loc;
   found = found_behind event past.found;
   seen = seen_behind event past.seen;
 }
@@ -96,6 +109,24 @@ pub quiet_past : (event : Event) (past : Past) → IsQuiet event → past_behind
 quiet_past (events.Found place start life) past quiet = absurd quiet
 quiet_past (events.Noted place life loc) past quiet = absurd quiet
 quiet_past event past quiet = refl
+
+-- where it noted nothing, it noted no location
+pub record IsSound (past : Past) : Type 0 where
+  pub unheld : (place life loc : ℕ) → past.noted place life ≡ 0 → past.has place life loc ≡ false
+
+still_none : (b c d : Bool) (n : ℕ) → (if b then suc n else n) ≡ 0 → (n ≡ 0 → d ≡ false) → ((b && c) || d) ≡ false
+still_none true c d n e unheld = absurd (omega (arith, e))
+still_none false c d n e unheld = unheld e
+
+unheld_behind : (event : Event) (past : Past) → IsSound past → (place life loc : ℕ)
+    → (past_behind event past).noted place life ≡ 0 → (past_behind event past).has place life loc ≡ false
+unheld_behind (events.Noted other since x) past sound place life loc e =
+    still_none ((other == place) && (since == life)) (x == loc) (past.has place life loc) (past.noted place life) e
+    (sound.unheld place life loc)
+unheld_behind event past sound place life loc e = sound.unheld place life loc e
+
+pub sound_behind : (event : Event) (past : Past) → IsSound past → IsSound (past_behind event past)
+sound_behind event past sound = record { unheld = unheld_behind event past sound }
 
 -- WHERE WALKS STAND
 
@@ -131,13 +162,21 @@ home lim words t place = slice_index words (home_word lim t place)
 abbrev pub header : Bounds → List ℕ → (log : ℕ) → ℕ
 header lim words log = slice_index words (header_word lim log)
 
+-- an entry of a log
+abbrev pub entry : Bounds → List ℕ → (log number : ℕ) → ℕ
+entry lim words log number = slice_index words (entry_word lim log number)
+
+-- the location is one of these
+abbrev pub is_in : (loc : ℕ) → List ℕ → Bool
+is_in loc locs = list_any (λ x. x == loc) locs
+
 -- LINKS
 
 -- of thread t, by what it told, and by the present lives of the blocks
 module _ (lim : Bounds) (traces : List (List Step)) (words : List ℕ) (logs : Logs) (t : ℕ) (past : Past)
     (lives : ℕ → ℕ) where
   -- the log is its own for a place, and its header tells how many locations were noted for a life, and that none was
-  -- for a later one
+  -- for a later one; its used entries hold those that were noted
   pub record Logged (place log : ℕ) : Type 0 where
     pub drawn : log < logs.count
     pub few : log < lim.logs
@@ -148,17 +187,26 @@ module _ (lim : Bounds) (traces : List (List Step)) (words : List ℕ) (logs : L
     pub header_is : header lim words log ≡ header_of life used 0
     pub used_few : used ≤ log_entries
     pub noted : past.noted place life ≡ used
+    pub held : (loc : ℕ) → is_in loc (entries_hold lim words log used) ≡ past.has place life loc
     pub none_later : (later : ℕ) → life < later → past.noted place later ≡ 0
     pub not_ahead : life ≤ past.seen place
 
-  -- what its words say of its log for a place: where the home word is 0, none was drawn, and nothing noted
-  pub record Own (place : ℕ) : Type 0 where
-    pub none : home lim words t place ≡ 0 → HasDrawn logs t place → ⊥
+  -- what its words say of its log for a place: where the home word is 0, nothing was noted
+  pub record Kept (place : ℕ) : Type 0 where
     pub unnoted : home lim words t place ≡ 0 → (life : ℕ) → past.noted place life ≡ 0
     pub some : (log : ℕ) → home lim words t place ≡ log + 1 → Logged place log
     pub seen_now : past.seen place ≤ lives place
 
-  -- so it is of all places
+  -- so they say of all places, wherever it stands
+  abbrev pub KeptAll : Type 0
+  KeptAll = (place : ℕ) → place < 256 * lim.pages → Kept place
+
+  -- and it drew no log for the place where the home word is 0
+  pub record Own (place : ℕ) : Type 0 where
+    pub none : home lim words t place ≡ 0 → HasDrawn logs t place → ⊥
+    pub kept : Kept place
+
+  -- so it is of all places, where it looks for no log
   abbrev pub OwnsAll : Type 0
   OwnsAll = (place : ℕ) → place < 256 * lim.pages → Own place
 
@@ -187,6 +235,14 @@ module _ (lim : Bounds) (traces : List (List Step)) (words : List ℕ) (logs : L
   abbrev pub IsHome : (place log : ℕ) → Type 0
   IsHome place log = home lim words t place ≡ log + 1
 
+  -- the location is one of program memory
+  abbrev pub IsLocation : ℕ → Type 0
+  IsLocation loc = loc < program_words lim
+
+  -- the header of the log tells of this life, and of so many entries
+  abbrev pub IsHeader : (life log used : ℕ) → Type 0
+  IsHeader life log used = header lim words log ≡ header_of life used 0
+
   -- it is there, and so many locations are noted for this life
   pub record Uses (place life log used : ℕ) : Type 0 where
     pub owns : OwnsAll
@@ -212,11 +268,13 @@ module _ (lim : Bounds) (traces : List (List Step)) (words : List ℕ) (logs : L
 
   abbrev pub Notes : NoteAt → Type 0
   Notes (notes.LoadPage loc value) = OwnsAll × (is_notable lim loc value ≡ true)
-  Notes (notes.LoadBlock loc place start) = OwnsAll × (place < 256 * lim.pages)
-  Notes (notes.Seek loc at) = Lists at
-  Notes (notes.StoreLife loc place life log) = Uses place life log 0
-  Notes (notes.StoreEntry loc place life log used) = Uses place life log used
-  Notes (notes.CountEntry loc place life log used) = Uses place life log used
+  Notes (notes.LoadBlock loc place start) = OwnsAll × (place < 256 * lim.pages) × IsLocation loc
+  Notes (notes.Seek loc at) = Lists at × IsLocation loc
+  Notes (notes.StoreLife loc place life log) = Uses place life log 0 × IsLocation loc
+  Notes (notes.StoreEntry loc place life log used) =
+      Uses place life log used × IsHeader life log used × IsLocation loc
+  Notes (notes.CountEntry loc place life log used) =
+      Uses place life log used × IsHeader life log used × IsLocation loc × (entry lim words log used ≡ entry_of loc)
 
   -- it ended since a table is full
   abbrev pub EndsFull : FullWhat → Type 0
@@ -240,12 +298,57 @@ module _ (lim : Bounds) (traces : List (List Step)) (words : List ℕ) (logs : L
   Stands (Spawn at) = OwnsAll × IsSpawning at
   Stands (Join at) = OwnsAll
   Stands (DrawPrint value) = OwnsAll
-  Stands (StoreEnded stop) = Ends stop
-  Stands (Over stop) = Ends stop
+  Stands (StoreEnded stop) = Ends stop × KeptAll
+  Stands (Over stop) = Ends stop × KeptAll
   Stands NoRow = OwnsAll
 
   abbrev pub IsLinked : Thread → Type 0
   IsLinked a = Stands a.position
+
+  -- WHAT ALL POSITIONS KEEP
+
+  pub kept_owns : OwnsAll → KeptAll
+  kept_owns owns place inside = (owns place inside).kept
+
+  -- a thread that drew a log and is not at home there yet
+  kept_others : (place life log : ℕ) → OwnsOthers place → Knows place life → Drew place log → KeptAll
+  kept_others place life log owns knows drew place' inside = by (cases_eq place place')
+    where
+      by : ((place ≡ place') ⊎ (place ≡ place' → ⊥)) → Kept place'
+      by (inl is) = subst Kept is (record {
+        unnoted = λ no since. drew.unnoted since;
+        some = λ log' at. absurd (omega (arith, at, drew.no_home));
+        seen_now = omega (arith, knows.seen_is, knows.now);
+      })
+      by (inr ne) = (owns place' inside ne).kept
+
+  kept_lists : (at : ListAt) → Lists at → KeptAll
+  kept_lists (LoadHome place life) l = kept_owns l.0
+  kept_lists (DrawLog place life) l = kept_owns l.0
+  kept_lists (StoreHeader place life log) l = kept_others place life log l.0 l.1 l.2
+  kept_lists (StoreHome place life log) l = kept_others place life log l.0 l.1 l.2
+  kept_lists (LoadHeader place life log) l = kept_owns l.0
+
+  kept_notes : (at : NoteAt) → Notes at → KeptAll
+  kept_notes (notes.LoadPage loc value) l = kept_owns l.0
+  kept_notes (notes.LoadBlock loc place start) l = kept_owns l.0
+  kept_notes (notes.Seek loc at) l = kept_lists at l.0
+  kept_notes (notes.StoreLife loc place life log) l = kept_owns l.0.owns
+  kept_notes (notes.StoreEntry loc place life log used) l = kept_owns l.0.owns
+  kept_notes (notes.CountEntry loc place life log used) l = kept_owns l.0.owns
+
+  pub kept_stands : (p : Position) → Stands p → KeptAll
+  kept_stands (Start at) l = kept_owns l
+  kept_stands (Access at) l = kept_owns l
+  kept_stands (Malloc at) l = kept_owns l.0
+  kept_stands (Note at) l = kept_notes at l
+  kept_stands (Free at) l = kept_owns l.0
+  kept_stands (Spawn at) l = kept_owns l.0
+  kept_stands (Join at) l = kept_owns l
+  kept_stands (DrawPrint value) l = kept_owns l
+  kept_stands (StoreEnded stop) l = l.1
+  kept_stands (Over stop) l = l.1
+  kept_stands NoRow l = kept_owns l
 
   -- WHERE A THREAD COMES TO
 
@@ -256,7 +359,7 @@ module _ (lim : Bounds) (traces : List (List Step)) (words : List ℕ) (logs : L
         of_if IsLinked (nat_lt units lim.fuel)
         (record { rest = rest; position = p; units = units; began = began; cursors = cursors })
         (record { rest = rest; position = StoreEnded Fuel; units = units; began = began; cursors = cursors })
-        here tt
+        here (tt, kept_stands p here)
 
     pub standing_linked : (units : ℕ) (began : Bool) (p : Position) → Stands p
         → IsLinked (standing lim cursors rest units began p)
@@ -275,8 +378,8 @@ module _ (lim : Bounds) (traces : List (List Step)) (words : List ℕ) (logs : L
   end_by_stands : (stop : Stop) → OwnsAll → Stands (end_by stop)
   end_by_stands Idle owns = owns
   end_by_stands Running owns = owns
-  end_by_stands (Returned value) owns = tt
-  end_by_stands (Trap trap) owns = tt
+  end_by_stands (Returned value) owns = (tt, kept_owns owns)
+  end_by_stands (Trap trap) owns = (tt, kept_owns owns)
   end_by_stands (Full place what) owns = owns
   end_by_stands Fuel owns = owns
 
@@ -306,8 +409,8 @@ module _ (lim : Bounds) (traces : List (List Step)) (words : List ℕ) (logs : L
       (standing lim cursors rest (units + begun) true (position_of lim cursors request))
       (record { rest = rest; position = StoreEnded Fuel; units = lim.fuel; began = true; cursors = cursors })
       (standing_linked cursors rest (units + begun) true (position_of lim cursors request)
-      (asked_stands cursors request owns)) tt
-  arriving_linked cursors rest units Silent owns = tt
+      (asked_stands cursors request owns)) (tt, kept_owns owns)
+  arriving_linked cursors rest units Silent owns = (tt, kept_owns owns)
 
   -- a thread that was answered, or begins
   pub going_linked : (cursors : List ℕ) (units : ℕ) (rest : Behaviour) → OwnsAll

@@ -7,6 +7,7 @@ use Rattle.ds_step.specs.declared.Event.{Event}
 use Rattle.ds_step.specs.declared.Event.TheVariants as events
 use Rattle.ds_plain.specs.State.{Block, block_in, Live, Freeing, Free, State, Setting, replaced}
 use Rattle.ds_plain.specs.Plain.{Allowed, so_far, written, opened, has_left, changed, IsPlainRun}
+use Rattle.ds_plain.specs.Plain.{state_after}
 use Rattle.ds_plain.specs.History.{is_log}
 use Rattle.ds_log_laws.proofs.Choices.{replaced_same, replaced_other}
 use Rattle.ds_log_laws.proofs.Noted.{FindsNow}
@@ -64,3 +65,10 @@ module _ (setting : Setting) (s : State) (t : ℕ) where
       → (is_log event ≡ false → Allowed setting s t event) × IsPlainRun setting (changed setting s t event) es
   plain_parts events.Log es run = (λ e. absurd (cc (e)), run)
   plain_parts event es run = (λ e. run.0, run.1)
+
+  -- and so is the state behind them
+  pub state_more : (event : Event) (es : List (ℕ × Event))
+      → state_after setting s (if is_log event then es else (t, event) ∷ es)
+      ≡ state_after setting (changed setting s t event) es
+  state_more events.Log es = refl
+  state_more event es = refl

@@ -41,8 +41,9 @@ use Rattle.ds_plain.specs.Thread.{moved_from_malloc, moved_from_free, moved_from
 use Rattle.ds_log_laws.proofs.Choices.{of_if, of_test}
 use Rattle.ds_log_laws.proofs.Places.{first_small, end_small, IsStartInside, start_inside}
 use Rattle.ds_log_laws.proofs.Links.{Logs, Counted, Past, past_behind, IsQuiet, quiet_past, IsLooking, IsFreeing}
-use Rattle.ds_log_laws.proofs.Links.{IsSpawning, OwnsAll, Stands, IsLinked, standing_linked, going_linked}
-use Rattle.ds_log_laws.proofs.Others.{Passes, later_same, own_on, ended_on}
+use Rattle.ds_log_laws.proofs.Links.{IsSpawning, KeptAll, OwnsAll, Stands, IsLinked, kept_owns, standing_linked}
+use Rattle.ds_log_laws.proofs.Links.{going_linked}
+use Rattle.ds_log_laws.proofs.Others.{Passes, SamePlace, later_same, same_holds, kept_on, own_on, ended_on}
 use Rattle.ds_log_laws.proofs.Quiet.{start_quiet, access_quiet, malloc_quiet, free_quiet, spawn_quiet, join_quiet}
 use Rattle.ds_log_laws.proofs.Words.{SameLogs, start_same, access_same, malloc_same, free_same, spawn_same, join_same}
 use Rattle.ds_log_laws.proofs.Words.{print_same, ended_same}
@@ -71,22 +72,36 @@ module _ (lim : Bounds) (traces : List (List Step)) (t : ℕ) (words words' : Li
     passes = record {
       homes = λ u place few inside ne. same.homes u place few inside;
       headers = λ log drawn few ne. same.headers log few;
+      entries = λ log n drawn few ne lt. same.entries log n few lt;
       later = later_same logs;
       drawn = λ n lt. inl lt;
     };
   }
 
-  pub quiet_owns : t < 16 → ((place : ℕ) → lives place ≤ lives' place) → SameLogs lim words words'
-      → OwnsAll lim traces words logs t past lives → OwnsAll lim traces words' logs t past lives'
-  quiet_owns few grown same owns place inside =
-      own_on lim traces words words' logs logs t past past lives lives' place (later_same logs) (record {
-        home_is = same.homes t place few inside;
-        before = λ has. has;
-        headers = λ log drawn few' place_is owner_is. same.headers log few';
-        noted = λ life. refl;
-        seen = omega arith;
-        seen_now = λ now. omega (arith, now, grown place);
-      }) (owns place inside)
+  module _ (few : t < 16) (grown : (place : ℕ) → lives place ≤ lives' place) (same : SameLogs lim words words') where
+    same_place : (place : ℕ) → place < 256 * lim.pages
+        → SamePlace lim traces words words' logs logs t past past lives lives' place
+    same_place place inside = record {
+      home_is = same.homes t place few inside;
+      before = λ has. has;
+      headers = λ log drawn few' place_is owner_is. same.headers log few';
+      holds = λ log life used drawn few' place_is owner_is header_is used_few.
+          same_holds lim words words' log log used (λ n lt. same.entries log n few' (omega (arith, lt, used_few)));
+      noted = λ life. refl;
+      has = λ life loc. refl;
+      seen = omega arith;
+      seen_now = λ now. omega (arith, now, grown place);
+    }
+
+    pub quiet_owns : OwnsAll lim traces words logs t past lives → OwnsAll lim traces words' logs t past lives'
+    quiet_owns owns place inside =
+        own_on lim traces words words' logs logs t past past lives lives' place (later_same logs)
+        (same_place place inside) (owns place inside)
+
+    pub quiet_kept : KeptAll lim traces words logs t past lives → KeptAll lim traces words' logs t past lives'
+    quiet_kept kept place inside =
+        kept_on lim traces words words' logs logs t past past lives lives' place (later_same logs)
+        (same_place place inside) (kept place inside)
 
 -- WHERE THE WALKS GO
 
@@ -220,7 +235,7 @@ module _ (program : Program) (lim : Bounds) (traces : List (List Step)) (words :
   pub free_links : (address : ℕ) (next : FreeNext) → Frees lim next → Links (moved_from_free lim a address next)
   free_links address (FreesOn at) frees' = on (Free at) (owns, frees')
   free_links address Freed frees' = told_on a.cursors 0
-  free_links address (FailsFree trap) frees' = tt
+  free_links address (FailsFree trap) frees' = (tt, kept_owns lim traces words logs t past lives owns)
 
   pub spawn_links : (next : SpawnNext) → Spawning next → Links (moved_from_spawn lim a next)
   spawn_links (SpawnsOn at) few = on (Spawn at) (owns, few)
@@ -229,7 +244,7 @@ module _ (program : Program) (lim : Bounds) (traces : List (List Step)) (words :
   pub join_links : (next : JoinNext) → Links (moved_from_join lim a next)
   join_links (JoinsOn at) = on (Join at) owns
   join_links Joined = told_on a.cursors 0
-  join_links (FailsJoin number) = tt
+  join_links (FailsJoin number) = (tt, kept_owns lim traces words logs t past lives owns)
 
 -- EACH ROW
 
@@ -303,5 +318,8 @@ module _ (program : Program) (lim : Bounds) (range : IsInRange lim) (traces : Li
   pub end_makes : (stop : Stop) → Links' (StoreEnded stop) → Quiet (StoreEnded stop)
   end_makes stop ends =
       quiet_makes lim traces t words (after (StoreEnded stop)) logs past lives lives' past
-      (moved_from program lim t a (StoreEnded stop) old) (ended_same lim words t _ few) counted
-      (ended_on lim traces words (after (StoreEnded stop)) logs t past lives lives' stop ends)
+      (moved_from program lim t a (StoreEnded stop) old) (ended_same lim words t _ few) counted (
+        ended_on lim traces words (after (StoreEnded stop)) logs t past lives lives' stop ends.0,
+        quiet_kept lim traces t words (after (StoreEnded stop)) logs past lives lives' few grown
+            (ended_same lim words t _ few) ends.1,
+      )

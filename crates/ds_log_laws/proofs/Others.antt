@@ -1,6 +1,8 @@
 -- What a step of one thread leaves of the logs, and that so the links of the others hold behind it.
-use Rattle.std.proofs.Common.{◌≡◌, ℕ, ◌*◌, ◌<◌, ◌≤◌, List, sym, ◌∙◌, inl, inr, ◌⊎◌, refl, arith}
+use Rattle.std.proofs.Common.{◌≡◌, ℕ, zero, suc, ◌*◌, ◌<◌, ◌≤◌, List, ◌++◌, sym, ap, ◌∙◌, inl, inr, ◌⊎◌, refl, arith}
 use Rattle.ds_map.specs.Bounds.{Bounds}
+use Rattle.ds_entry.specs.Entry.{locations_of}
+use Rattle.ds_entry.specs.Header.{log_entries, header_of}
 use Rattle.ds_step.specs.declared.FullWhat.{FullWhat}
 use Rattle.ds_step.specs.declared.FullWhat.TheVariants as tables
 use Rattle.ds_step.specs.declared.Step.{Step}
@@ -13,8 +15,10 @@ use Rattle.ds_plain.specs.declared.NoteAt.TheVariants as notes
 use Rattle.ds_plain.specs.declared.Position.{Position}
 use Rattle.ds_plain.specs.declared.Position.TheVariants.{Start, Access, Malloc, Note, Free, Spawn, Join}
 use Rattle.ds_plain.specs.declared.Position.TheVariants.{DrawPrint, StoreEnded, Over, NoRow}
-use Rattle.ds_log_laws.proofs.Links.{home, header, Logs, HasDrawn, Past, Logged, Own, OwnsAll, OwnsOthers, Knows, Drew}
-use Rattle.ds_log_laws.proofs.Links.{Uses, Lists, Notes, EndsFull, Ends, Stands}
+use Rattle.ds_log_laws.specs.Reading.{entries_hold}
+use Rattle.ds_log_laws.proofs.Links.{home, header, entry, is_in, Logs, HasDrawn, Past, Logged, Kept, KeptAll, Own}
+use Rattle.ds_log_laws.proofs.Links.{OwnsAll, OwnsOthers, Knows, Drew, IsHeader, Uses, Lists, Notes, EndsFull, Ends}
+use Rattle.ds_log_laws.proofs.Links.{Stands}
 
 -- the logs that were drawn stay as they are
 pub record Later (logs logs' : Logs) : Type 0 where
@@ -25,13 +29,24 @@ pub record Later (logs logs' : Logs) : Type 0 where
 pub later_same : (logs : Logs) → Later logs logs
 later_same logs = record { least = omega arith; places = λ n lt. refl; owners = λ n lt. refl }
 
--- what a step of thread u leaves to the others: their home words, the headers of their logs, and the logs that were
--- drawn
+-- logs hold the same where their entries are the same
+pub same_holds : (lim : Bounds) (words words' : List ℕ) (log log' used : ℕ)
+    → ((n : ℕ) → n < used → entry lim words' log' n ≡ entry lim words log n)
+    → entries_hold lim words' log' used ≡ entries_hold lim words log used
+same_holds lim words words' log log' zero same = refl
+same_holds lim words words' log log' (suc n) same =
+    ap (λ locs. locs ++ locations_of (entry lim words' log' n))
+    (same_holds lim words words' log log' n (λ m lt. same m (omega (arith, lt))))
+    ∙ ap (λ word. entries_hold lim words log n ++ locations_of word) (same n (omega arith))
+
+-- what a step of thread u leaves to the others: their home words, their logs, and which logs were drawn
 pub record Passes (lim : Bounds) (u : ℕ) (words words' : List ℕ) (logs logs' : Logs) : Type 0 where
   pub homes : (t place : ℕ) → t < 16 → place < 256 * lim.pages → (u ≡ t → ⊥)
       → home lim words' t place ≡ home lim words t place
   pub headers : (log : ℕ) → log < logs.count → log < lim.logs → (u ≡ logs.owner log → ⊥)
       → header lim words' log ≡ header lim words log
+  pub entries : (log n : ℕ) → log < logs.count → log < lim.logs → (u ≡ logs.owner log → ⊥) → n < log_entries
+      → entry lim words' log n ≡ entry lim words log n
   pub later : Later logs logs'
   pub drawn : (n : ℕ) → n < logs'.count → (n < logs.count) ⊎ (logs'.owner n ≡ u)
 
@@ -51,41 +66,54 @@ drawn_before lim u t place words words' logs logs' passes ne has = by (passes.dr
 
 module _ (lim : Bounds) (traces : List (List Step)) (words words' : List ℕ) (logs logs' : Logs) (t : ℕ)
     (past past' : Past) (lives lives' : ℕ → ℕ) where
-  -- what is the same for a place behind a step: the home word, the logs drawn for it, their headers, and what was
-  -- noted
+  -- what is the same for a place behind a step: the home word, the logs drawn for it, their headers and what they hold,
+  -- and what was noted
   pub record SamePlace (place : ℕ) : Type 0 where
     pub home_is : home lim words' t place ≡ home lim words t place
     pub before : HasDrawn logs' t place → HasDrawn logs t place
     pub headers : (log : ℕ) → log < logs.count → log < lim.logs → logs.place log ≡ place → logs.owner log ≡ t
         → header lim words' log ≡ header lim words log
+    pub holds : (log life used : ℕ) → log < logs.count → log < lim.logs → logs.place log ≡ place → logs.owner log ≡ t
+        → header lim words log ≡ header_of life used 0 → used ≤ log_entries
+        → entries_hold lim words' log used ≡ entries_hold lim words log used
     pub noted : (life : ℕ) → past'.noted place life ≡ past.noted place life
+    pub has : (life loc : ℕ) → past'.has place life loc ≡ past.has place life loc
     pub seen : past.seen place ≤ past'.seen place
     pub seen_now : past.seen place ≤ lives place → past'.seen place ≤ lives' place
+
+  logged_on : (place log : ℕ) → Later logs logs' → SamePlace place → Logged lim traces words logs t past lives place log
+      → Logged lim traces words' logs' t past' lives' place log
+  logged_on place log later same logged = record {
+    drawn = omega (arith, logged.drawn, later.least);
+    few = logged.few;
+    place_is = later.places log logged.drawn ∙ logged.place_is;
+    owner_is = later.owners log logged.drawn ∙ logged.owner_is;
+    life = logged.life;
+    used = logged.used;
+    header_is = same.headers log logged.drawn logged.few logged.place_is logged.owner_is ∙ logged.header_is;
+    used_few = logged.used_few;
+    noted = same.noted logged.life ∙ logged.noted;
+    held = λ loc.
+        ap (is_in loc) (same.holds log logged.life logged.used logged.drawn logged.few logged.place_is logged.owner_is
+        logged.header_is logged.used_few) ∙ (logged.held loc ∙ sym (same.has logged.life loc));
+    none_later = λ life lt. same.noted life ∙ logged.none_later life lt;
+    not_ahead = omega (arith, logged.not_ahead, same.seen);
+  }
+
+  pub kept_on : (place : ℕ) → Later logs logs' → SamePlace place → Kept lim traces words logs t past lives place
+      → Kept lim traces words' logs' t past' lives' place
+  kept_on place later same kept = record {
+    unnoted = λ no life. same.noted life ∙ kept.unnoted (sym same.home_is ∙ no) life;
+    some = λ log is. logged_on place log later same (kept.some log (sym same.home_is ∙ is));
+    seen_now = same.seen_now kept.seen_now;
+  }
 
   pub own_on : (place : ℕ) → Later logs logs' → SamePlace place → Own lim traces words logs t past lives place
       → Own lim traces words' logs' t past' lives' place
   own_on place later same own = record {
     none = λ no has. own.none (sym same.home_is ∙ no) (same.before has);
-    unnoted = λ no life. same.noted life ∙ own.unnoted (sym same.home_is ∙ no) life;
-    some = λ log is. logged_on log (own.some log (sym same.home_is ∙ is));
-    seen_now = same.seen_now own.seen_now;
+    kept = kept_on place later same own.kept;
   }
-    where
-      logged_on : (log : ℕ) → Logged lim traces words logs t past lives place log
-          → Logged lim traces words' logs' t past' lives' place log
-      logged_on log logged = record {
-        drawn = omega (arith, logged.drawn, later.least);
-        few = logged.few;
-        place_is = later.places log logged.drawn ∙ logged.place_is;
-        owner_is = later.owners log logged.drawn ∙ logged.owner_is;
-        life = logged.life;
-        used = logged.used;
-        header_is = same.headers log logged.drawn logged.few logged.place_is logged.owner_is ∙ logged.header_is;
-        used_few = logged.used_few;
-        noted = same.noted logged.life ∙ logged.noted;
-        none_later = λ life lt. same.noted life ∙ logged.none_later life lt;
-        not_ahead = omega (arith, logged.not_ahead, same.seen);
-      }
 
 -- why a thread ended stays so
 module _ (lim : Bounds) (traces : List (List Step)) (words words' : List ℕ) (t : ℕ) (past : Past)
@@ -124,10 +152,19 @@ module _ (lim : Bounds) (traces : List (List Step)) (words words' : List ℕ) (l
     home_is = passes.homes t place few inside ne;
     before = drawn_before lim u t place words words' logs logs' passes ne;
     headers = λ log drawn few' place_is owner_is. passes.headers log drawn few' (not_mine log owner_is);
+    holds = λ log life used drawn few' place_is owner_is header_is used_few.
+        same_holds lim words words' log log used
+        (λ n lt. passes.entries log n drawn few' (not_mine log owner_is) (omega (arith, lt, used_few)));
     noted = λ life. refl;
+    has = λ life loc. refl;
     seen = omega arith;
     seen_now = λ now. omega (arith, now, grown place);
   }
+
+  kept_all_on : KeptAll lim traces words logs t past lives → KeptAll lim traces words' logs' t past lives'
+  kept_all_on kept place inside =
+      kept_on lim traces words words' logs logs' t past past lives lives' place passes.later (same_on place inside)
+      (kept place inside)
 
   owns_on : OwnsAll lim traces words logs t past lives → OwnsAll lim traces words' logs' t past lives'
   owns_on owns place inside =
@@ -171,6 +208,18 @@ module _ (lim : Bounds) (traces : List (List Step)) (words words' : List ℕ) (l
     left = uses.left;
   }
 
+  -- the log at which it is at home
+  module _ (place life log used : ℕ) (uses : Uses lim traces words logs t past lives place life log used) where
+    abbrev at_home : Logged lim traces words logs t past lives place log
+    at_home = (uses.owns place uses.knows.place_is).kept.some log uses.is_home
+
+    header_on : IsHeader lim traces words logs t past lives life log used
+        → IsHeader lim traces words' logs' t past lives' life log used
+    header_on is = passes.headers log at_home.drawn at_home.few (not_mine log at_home.owner_is) ∙ is
+
+    entry_on : entry lim words' log used ≡ entry lim words log used
+    entry_on = passes.entries log used at_home.drawn at_home.few (not_mine log at_home.owner_is) uses.left
+
   lists_on : (at : ListAt) → Lists lim traces words logs t past lives at
       → Lists lim traces words' logs' t past lives' at
   lists_on (LoadHome place life) l = (owns_on l.0, knows_on place life l.1)
@@ -190,11 +239,17 @@ module _ (lim : Bounds) (traces : List (List Step)) (words words' : List ℕ) (l
   notes_on : (at : NoteAt) → Notes lim traces words logs t past lives at
       → Notes lim traces words' logs' t past lives' at
   notes_on (notes.LoadPage loc value) l = (owns_on l.0, l.1)
-  notes_on (notes.LoadBlock loc place start) l = (owns_on l.0, l.1)
-  notes_on (notes.Seek loc at) l = lists_on at l
-  notes_on (notes.StoreLife loc place life log) l = uses_on place life log 0 l
-  notes_on (notes.StoreEntry loc place life log used) l = uses_on place life log used l
-  notes_on (notes.CountEntry loc place life log used) l = uses_on place life log used l
+  notes_on (notes.LoadBlock loc place start) l = (owns_on l.0, l.1, l.2)
+  notes_on (notes.Seek loc at) l = (lists_on at l.0, l.1)
+  notes_on (notes.StoreLife loc place life log) l = (uses_on place life log 0 l.0, l.1)
+  notes_on (notes.StoreEntry loc place life log used) l =
+      (uses_on place life log used l.0, header_on place life log used l.0 l.1, l.2)
+  notes_on (notes.CountEntry loc place life log used) l = (
+    uses_on place life log used l.0,
+    header_on place life log used l.0 l.1,
+    l.2,
+    entry_on place life log used l.0 ∙ l.3,
+  )
 
   -- a step of another thread keeps the link
   pub linked_on : (p : Position) → Stands lim traces words logs t past lives p
@@ -208,6 +263,7 @@ module _ (lim : Bounds) (traces : List (List Step)) (words words' : List ℕ) (l
   linked_on (Join at) l = owns_on l
   linked_on (DrawPrint value) l = owns_on l
   linked_on (StoreEnded stop) l =
-      ends_on lim traces words words' t past lives lives' logs logs' stop passes.later.least l
-  linked_on (Over stop) l = ends_on lim traces words words' t past lives lives' logs logs' stop passes.later.least l
+      (ends_on lim traces words words' t past lives lives' logs logs' stop passes.later.least l.0, kept_all_on l.1)
+  linked_on (Over stop) l =
+      (ends_on lim traces words words' t past lives lives' logs logs' stop passes.later.least l.0, kept_all_on l.1)
   linked_on NoRow l = owns_on l

@@ -1,6 +1,6 @@
 -- The logs behind every legal history: by induction on it from its front.
 use Rattle.std.proofs.Common.{◌≡◌, ℕ, suc, None, ◌+◌, ◌<◌, ◌≤◌, Bool, true, false, if◌then◌else◌, List, [], ◌∷◌}
-use Rattle.std.proofs.Common.{length, refl, sym, ap, ◌∙◌, subst, inl, inr, ◌⊎◌, arith}
+use Rattle.std.proofs.Common.{◌||◌, length, refl, sym, ap, ◌∙◌, subst, inl, inr, ◌⊎◌, arith}
 use Rattle.std.proofs.lemmas.Bool.{cases_eq, cases_lt, eq-eqb, ne_eqb}
 use Rattle.std.proofs.lemmas.List.{length-set, get_or_past}
 use Rattle.ds_map.specs.Bounds.{Bounds, IsInRange}
@@ -29,8 +29,8 @@ use Rattle.ds_plain.specs.Explained.{stop_in, trace_of, setting_of, IsRecord, Is
 use Rattle.ds_log_laws.specs.Told.{IsTold, notes_for, noted_count, last_found}
 use Rattle.ds_log_laws.specs.Full.{FullLogs, FullHash}
 use Rattle.ds_log_laws.proofs.Choices.{replaced_same, replaced_other}
-use Rattle.ds_log_laws.proofs.Links.{home, Logs, Counted, Past, past_behind, EndsFull, Ends, Stands, IsLinked}
-use Rattle.ds_log_laws.proofs.Links.{standing_linked}
+use Rattle.ds_log_laws.proofs.Links.{home, Logs, Counted, Past, IsSound, past_behind, sound_behind, notes_at, EndsFull}
+use Rattle.ds_log_laws.proofs.Links.{Ends, Stands, IsLinked, standing_linked}
 use Rattle.ds_log_laws.proofs.First.{zero_word, counter_first, roomy_first}
 use Rattle.ds_log_laws.proofs.Others.{later_same, linked_on}
 use Rattle.ds_log_laws.proofs.Makes.{Makes, start_makes, access_makes, malloc_makes, free_makes, spawn_makes}
@@ -38,6 +38,7 @@ use Rattle.ds_log_laws.proofs.Makes.{join_makes, print_makes, end_makes}
 use Rattle.ds_log_laws.proofs.Noted.{MakesSome, FindsNow, note_makes}
 use Rattle.ds_log_laws.proofs.Lives.{lives_of, lives_grow, finds_now, plain_parts}
 use Rattle.ds_log_laws.proofs.Bounded.{count_fits, full_logs}
+use Rattle.ds_log_laws.proofs.Tied.{is_noted, noted_here, noted_away}
 
 -- The words, the logs, the lives of blocks and the threads go together, and what is left of the history is legal,
 -- follows the step table, and is a run of the plain machine.
@@ -45,6 +46,7 @@ pub record Keeps (program : Program) (lim : Bounds) (stops : List Stop) (traces 
     (words : List ℕ) (s : State) (threads : ℕ → Thread) (logs : Logs) (pasts : ℕ → Past) : Type 0 where
   pub counted : Counted lim traces words logs
   pub roomy : first_program_word lim ≤ length words
+  pub sound : (t : ℕ) → IsSound (pasts t)
   pub linked : (t : ℕ) → t < 16 → IsLinked lim traces words logs t (pasts t) (lives_of s) (threads t)
   pub legal : IsLegal words h
   pub follows : (t : ℕ) → Follows program lim t (threads t) (steps_of t h)
@@ -54,6 +56,7 @@ pub record Keeps (program : Program) (lim : Bounds) (stops : List Stop) (traces 
   pub notes : (t place life : ℕ) → (pasts t).noted place life + noted_count place life (steps_of t h)
       ≡ noted_count place life (trace_of traces t)
   pub plain : IsPlainRun (setting_of program lim stops) s (erase h)
+  pub tied : (t place life loc : ℕ) → (pasts t).has place life loc ≡ is_noted place life loc t s.noted
 
 -- where the history leads the threads, they go together with some words, logs and lives, and they have told their
 -- traces
@@ -73,7 +76,7 @@ pub record Leads (program : Program) (lim : Bounds) (traces : List (List Step)) 
 module _ (program : Program) (lim : Bounds) (range : IsInRange lim) (traces : List (List Step)) (words : List ℕ)
     (logs : Logs) (t : ℕ) (past : Past) (lives lives' : ℕ → ℕ) (few : t < 16) (a : Thread) (old : ℕ)
     (counted : Counted lim traces words logs) (grown : (place : ℕ) → lives place ≤ lives' place)
-    (roomy : first_program_word lim ≤ length words) where
+    (roomy : first_program_word lim ≤ length words) (sound : IsSound past) where
   abbrev MakesAt : Position → Type 0
   MakesAt p =
       MakesSome lim traces t words (words_after words (op_at lim t p)) logs (past_behind (event_at lim t p old) past)
@@ -90,6 +93,7 @@ module _ (program : Program) (lim : Bounds) (range : IsInRange lim) (traces : Li
       linked_on lim traces words words logs logs t past lives lives' (suc t) few (λ e. omega (arith, e)) (record {
         homes = λ u place few' inside ne. refl;
         headers = λ log drawn few' ne. refl;
+        entries = λ log n drawn few' ne lt. refl;
         later = later_same logs;
         drawn = λ n lt. inl lt;
       }) grown p l
@@ -107,7 +111,7 @@ module _ (program : Program) (lim : Bounds) (range : IsInRange lim) (traces : Li
       some_makes (Malloc at)
       (malloc_makes program lim range traces words logs t past lives lives' few a old counted grown at l)
   makes_at (Note at) over is is_told now l =
-      note_makes lim traces words logs t past lives' few a counted roomy at old
+      note_makes lim traces words logs t past lives' few a counted roomy range sound at old
       (count_fits lim traces words logs counted range) is is_told now (raised (Note at) l)
   makes_at (Free at) over is is_told now l =
       some_makes (Free at)
@@ -186,7 +190,7 @@ module _ (program : Program) (lim : Bounds) (range : IsInRange lim) (stops : Lis
       subst (λ (st : Step). MakesSome lim traces e.0 words (words_after words st.op) logs
       (past_behind st.event (pasts e.0)) (lives_of state) thread) (sym follows_here.1)
       (makes_at program lim range traces words logs e.0 (pasts e.0) (lives_of s) (lives_of state) within a e.1.old
-      keeps.counted grown keeps.roomy a.position follows_here.0 answer
+      keeps.counted grown keeps.roomy (keeps.sound e.0) a.position follows_here.0 answer
       (tells_here (event_at lim e.0 a.position e.1.old) (inl event)) now (keeps.linked e.0 within))
 
   links_on : (u : ℕ) → u < 16 → ((e.0 ≡ u) ⊎ (e.0 ≡ u → ⊥))
@@ -204,6 +208,12 @@ module _ (program : Program) (lim : Bounds) (range : IsInRange lim) (stops : Lis
       (sym (replaced_other threads e.0 thread u ne))
       (linked_on lim traces words (words_after words e.1.op) logs makes.logs' u (pasts u) (lives_of s) (lives_of state)
       e.0 lt ne makes.makes.passes grown (threads u).position (keeps.linked u lt)))
+
+  sound_on : (u : ℕ) → ((e.0 ≡ u) ⊎ (e.0 ≡ u → ⊥)) → IsSound (pasts' u)
+  sound_on u (inl is) =
+      subst (λ u. IsSound (pasts' u)) is
+      (subst IsSound (sym (replaced_same pasts e.0 past)) (sound_behind e.1.event (pasts e.0) (keeps.sound e.0)))
+  sound_on u (inr ne) = subst IsSound (sym (replaced_other pasts e.0 past u ne)) (keeps.sound u)
 
   -- WHAT THE THREADS TOLD
 
@@ -244,6 +254,17 @@ module _ (program : Program) (lim : Bounds) (range : IsInRange lim) (stops : Lis
       ∙ (sym (ap (λ ss. (pasts u).noted place life + noted_count place life ss) (steps_away u ne))
       ∙ keeps.notes u place life)
 
+  tied_on : (u place life loc : ℕ) → ((e.0 ≡ u) ⊎ (e.0 ≡ u → ⊥))
+      → (pasts' u).has place life loc ≡ is_noted place life loc u state.noted
+  tied_on u place life loc (inl is) =
+      subst (λ u. (pasts' u).has place life loc ≡ is_noted place life loc u state.noted) is
+      (ap (λ (p : Past). p.has place life loc) (replaced_same pasts e.0 past)
+      ∙ (ap (λ b. notes_at place life loc e.1.event || b) (keeps.tied e.0 place life loc)
+      ∙ sym (noted_here place life loc e.0 setting s e.1.event)))
+  tied_on u place life loc (inr ne) =
+      ap (λ (p : Past). p.has place life loc) (replaced_other pasts e.0 past u ne)
+      ∙ (keeps.tied u place life loc ∙ sym (noted_away place life loc u setting s e.0 ne e.1.event))
+
   follows_on : (u : ℕ) → ((e.0 ≡ u) ⊎ (e.0 ≡ u → ⊥)) → Follows program lim u (threads' u) (steps_of u h)
   follows_on u (inl is) = subst (λ u. Follows program lim u (threads' u) (steps_of u h)) is
       (subst (λ a. Follows program lim e.0 a (steps_of e.0 h)) (sym (replaced_same threads e.0 thread))
@@ -263,6 +284,7 @@ module _ (program : Program) (lim : Bounds) (range : IsInRange lim) (stops : Lis
   keeps_on = record {
     counted = makes.makes.counted;
     roomy = omega (arith, keeps.roomy, length-set {A = ℕ});
+    sound = λ u. sound_on u (cases_eq e.0 u);
     linked = λ u lt. links_on u lt (cases_eq e.0 u);
     legal = keeps.legal.1;
     follows = λ u. follows_on u (cases_eq e.0 u);
@@ -271,6 +293,7 @@ module _ (program : Program) (lim : Bounds) (range : IsInRange lim) (stops : Lis
     finds = λ u. finds_on u (cases_eq e.0 u);
     notes = λ u place life. notes_on u place life (cases_eq e.0 u);
     plain = plain_here.1;
+    tied = λ u place life loc. tied_on u place life loc (cases_eq e.0 u);
   }
 
   -- the threads are led where the rest of the history leads them
@@ -337,7 +360,7 @@ module _ (lim : Bounds) (traces : List (List Step)) (words : List ℕ) (logs : L
   ended_full (DrawPrint value) began place what e l = absurd (cc (e))
   ended_full (StoreEnded stop) true place what e l = absurd (cc (e))
   ended_full (StoreEnded stop) false place what e l = absurd (cc (e))
-  ended_full (Over stop) began place what e l = subst (Ends lim traces words logs t past lives) e l
+  ended_full (Over stop) began place what e l = subst (Ends lim traces words logs t past lives) e l.0
   ended_full NoRow began place what e l = absurd (cc (e))
 
 -- from the start
@@ -351,13 +374,14 @@ module _ (program : Program) (lim : Bounds) (stops : List Stop) (traces : List (
   follows_all t (inl lt) = subst (Follows program lim t (first_thread lim)) (sym (takes t)) (known.follows t lt)
   follows_all t (inr le) = subst (Follows program lim t (first_thread lim)) (sym (none_past t le)) tt
 
-  abbrev none_drawn : Logs
+  abbrev pub none_drawn : Logs
   none_drawn = record { count = 0; place = λ n. 0; owner = λ n. 0 }
 
-  abbrev none_told : Past
-  none_told = record { noted = λ place life. 0; found = None; seen = λ place. 0 }
+  abbrev pub none_told : Past
+  none_told =
+      record { noted = λ place life. 0; has = λ place life loc. false; found = None; seen = λ place. 0 }
 
-  abbrev first : List ℕ
+  abbrev pub first : List ℕ
   first = first_words lim program.image
 
   first_linked : (t : ℕ) → t < 16
@@ -370,12 +394,14 @@ module _ (program : Program) (lim : Bounds) (stops : List Stop) (traces : List (
       (omega (arith, few, inside)) in
       record {
         none = λ at_none has. absurd (omega (arith, has.drawn));
-        unnoted = λ at_none life. refl;
-        some = λ log is. absurd (omega (arith, is, zero'));
-        seen_now = omega arith;
+        kept = record {
+          unnoted = λ at_none life. refl;
+          some = λ log is. absurd (omega (arith, is, zero'));
+          seen_now = omega arith;
+        };
       })
 
-  keeps_first : Keeps program lim stops traces h first (first_state program lim) (λ t. first_thread lim) none_drawn
+  pub keeps_first : Keeps program lim stops traces h first (first_state program lim) (λ t. first_thread lim) none_drawn
       (λ t. none_told)
   keeps_first = record {
     counted = record {
@@ -384,6 +410,7 @@ module _ (program : Program) (lim : Bounds) (stops : List Stop) (traces : List (
       each = λ n lt. absurd (omega (arith, lt));
     };
     roomy = roomy_first lim program.image;
+    sound = λ t. record { unheld = λ place life loc none. refl };
     linked = first_linked;
     legal = legal;
     follows = λ t. follows_all t (cases_lt t 16);
@@ -392,6 +419,7 @@ module _ (program : Program) (lim : Bounds) (stops : List Stop) (traces : List (
     finds = λ t. ap (last_found None) (takes t);
     notes = λ t place life. omega (arith, ap (noted_count place life) (takes t));
     plain = explained.plain;
+    tied = λ t place life loc. refl;
   }
 
   pub run_leads : Leads program lim traces h (λ t. first_thread lim)

@@ -28,19 +28,25 @@ use Rattle.ds_plain.specs.Joining.{join_op}
 use Rattle.ds_plain.specs.Accessing.{access_op}
 use Rattle.ds_plain.specs.Freeing.{free_op}
 use Rattle.ds_plain.specs.Listing.{home_word, header_word, entry_word}
-use Rattle.ds_log_laws.proofs.Links.{home, header, IsLooking, IsFreeing, IsSpawning}
+use Rattle.ds_log_laws.proofs.Links.{home, header, entry, IsLooking, IsFreeing, IsSpawning}
 
--- the counter of the logs, the home words and the headers are the same
+-- the counter of the logs, the home words, the headers and the entries are the same
 pub record SameLogs (lim : Bounds) (words words' : List ℕ) : Type 0 where
   pub counter : slice_index words' 3 ≡ slice_index words 3
   pub homes : (t place : ℕ) → t < 16 → place < 256 * lim.pages → home lim words' t place ≡ home lim words t place
   pub headers : (log : ℕ) → log < lim.logs → header lim words' log ≡ header lim words log
+  pub entries : (log n : ℕ) → log < lim.logs → n < log_entries → entry lim words' log n ≡ entry lim words log n
 
 module _ (lim : Bounds) (words : List ℕ) where
   -- a load leaves all words as they are
   pub same_loaded : (i : ℕ) → SameLogs lim words (slice_set words i (slice_index words i))
   same_loaded i = subst (λ (ws : List ℕ). SameLogs lim words ws) (sym (set-get_or words i 0))
-      (record { counter = refl; homes = λ t place few inside. refl; headers = λ log few. refl })
+      (record {
+        counter = refl;
+        homes = λ t place few inside. refl;
+        headers = λ log few. refl;
+        entries = λ log n few lt'. refl;
+      })
 
   -- the words before the counter
   same_before : (i v : ℕ) → i < 3 → SameLogs lim words (slice_set words i v)
@@ -48,6 +54,7 @@ module _ (lim : Bounds) (words : List ℕ) where
     counter = get_or-set_other words i 3 v 0 (λ e. omega (arith, e, lt));
     homes = λ t place few inside. get_or-set_other words i (home_word lim t place) v 0 (λ e. omega (arith, e, lt));
     headers = λ log few. get_or-set_other words i (header_word lim log) v 0 (λ e. omega (arith, e, lt));
+    entries = λ log n few lt'. get_or-set_other words i (entry_word lim log n) v 0 (λ e. omega (arith, e, lt));
   }
 
   -- those between it and the home words
@@ -56,6 +63,7 @@ module _ (lim : Bounds) (words : List ℕ) where
     counter = get_or-set_other words i 3 v 0 (λ e. omega (arith, e, more));
     homes = λ t place few inside. get_or-set_other words i (home_word lim t place) v 0 (λ e. omega (arith, e, lt));
     headers = λ log few. get_or-set_other words i (header_word lim log) v 0 (λ e. omega (arith, e, lt));
+    entries = λ log n few lt'. get_or-set_other words i (entry_word lim log n) v 0 (λ e. omega (arith, e, lt));
   }
 
   -- the program words
@@ -65,6 +73,8 @@ module _ (lim : Bounds) (words : List ℕ) where
     homes = λ t place few inside.
         get_or-set_other words i (home_word lim t place) v 0 (λ e. omega (arith, e, le, few, inside));
     headers = λ log few. get_or-set_other words i (header_word lim log) v 0 (λ e. omega (arith, e, le, few));
+    entries = λ log n few lt'.
+        get_or-set_other words i (entry_word lim log n) v 0 (λ e. omega (arith, e, le, few, lt'));
   }
 
   -- EACH WALK
@@ -118,16 +128,3 @@ module _ (lim : Bounds) (words : List ℕ) where
 
   pub ended_same : (t v : ℕ) → t < 16 → SameLogs lim words (slice_set words (16 + t) v)
   ended_same t v few = same_between (16 + t) v (omega arith) (omega (arith, few))
-
-  -- THE ENTRIES OF LOGS
-
-  pub entry_same : (log used v : ℕ) → used < log_entries
-      → SameLogs lim words (slice_set words (entry_word lim log used) v)
-  entry_same log used v left = record {
-    counter = get_or-set_other words (entry_word lim log used) 3 v 0 (λ e. omega (arith, e));
-    homes = λ t place few inside.
-        get_or-set_other words (entry_word lim log used) (home_word lim t place) v 0
-        (λ e. omega (arith, e, few, inside));
-    headers = λ log' few.
-        get_or-set_other words (entry_word lim log used) (header_word lim log') v 0 (λ e. omega (arith, e, left));
-  }

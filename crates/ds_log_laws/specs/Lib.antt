@@ -1,3 +1,4 @@
 pub mod Told
 pub mod Full
+pub mod Reading
 pub mod Laws

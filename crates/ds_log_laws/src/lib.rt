@@ -4,7 +4,7 @@
 //! list of traces, whichever code made them.
 #![tactic(auto)]
 
-ghost use Rattle.ds_log_laws.specs.Laws.{FullLogsAreDrawn, FullEntriesAreUsed};
+ghost use Rattle.ds_log_laws.specs.Laws.{FullLogsAreDrawn, FullEntriesAreUsed, NotesAreLogged};
 
 use ds_plain_laws::legal_runs_are_plain;
 
@@ -20,6 +20,14 @@ pub fn full_logs_are_drawn()
 /// found last.
 pub fn full_entries_are_used()
     ensures { FullEntriesAreUsed }
+{
+    legal_runs_are_plain();
+}
+
+/// At every moment a thread has noted a location for the present life of a block exactly where the words of its log say
+/// so.
+pub fn notes_are_logged()
+    ensures { NotesAreLogged }
 {
     legal_runs_are_plain();
 }
